@@ -1,7 +1,7 @@
 #!/usr/bin/env bash
-# build.sh: makes bindings/out/libsyned.a, with the toolchain's C part inside, and bindings/out/libsyned.so. It takes the archive of the crate
-# `syned_c` that is there, unless a source is newer. Else it makes that archive: over the libraries that `rt ci` left, if these are fresh, in
-# less than a minute, and by `rt lib`, which proves all of them, if not.
+# build.sh: makes bindings/out/libsyned.a, with the toolchain's C part and bindings/c/syned.c inside, and bindings/out/libsyned.so. It takes the
+# archive of the crate `syned_c` that is there, unless a source is newer. Else it makes that archive: over the libraries that `rt ci` left, if
+# these are fresh, in less than a minute, and by `rt lib`, which proves all of them, if not.
 set -euo pipefail
 cd "$(dirname "$0")/.."
 archive=crates/syned_c/out/libsyned_c.a
@@ -48,8 +48,14 @@ trap 'rm -rf "$room"' EXIT
 archive=$PWD/$archive
 (cd "$room" && ar x "$archive" && ar x "$kit/c/liblibc_c.a")
 mkdir -p bindings/out
-rm -f bindings/out/libsyned.a
+cc -O2 -fPIC -Wall -Wextra -Werror -Ibindings/c -c bindings/c/syned.c -o "$room/syned_c_part.o"
+rm -f bindings/out/libsyned.*
 ar rcs bindings/out/libsyned.a "$room"/*.o
-# Only the two calls are exported.
-printf '{ global: syned_run; syned_explain; local: *; };\n' >"$room/exports"
-cc -shared -o bindings/out/libsyned.so "$room"/*.o -Wl,--version-script="$room/exports"
+# Only what syned.h declares is exported. A program that was linked to another major version does not find this one.
+{
+    echo '{ global:'
+    sed -n 's/^[a-z].*\b\(syned_[a-z_]*\)(.*);$/\1;/p' bindings/c/syned.h
+    echo 'local: *; };'
+} >"$room/exports"
+cc -shared -o bindings/out/libsyned.so.0 "$room"/*.o -Wl,--version-script="$room/exports" -Wl,-soname,libsyned.so.0
+ln -s libsyned.so.0 bindings/out/libsyned.so

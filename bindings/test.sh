@@ -9,12 +9,33 @@ trap 'rm -rf "$rows"' EXIT
 bash bindings/build.sh
 python3 bindings/scripts.py "$rows"
 
+# Each binding is of one version, that of the library.
+versions() {
+    local found
+    found=$(sed -n 's/^#define SYNED_VERSION "\(.*\)"$/\1/p' bindings/c/syned.h
+        sed -n 's/^Version: //p' bindings/c/syned.pc
+        sed -n 's/^version = "\(.*\)"$/\1/p' bindings/rust/Cargo.toml
+        sed -n 's/^__version__ = "\(.*\)"$/\1/p' bindings/python/syned/__init__.py)
+    [ "$(wc -l <<<"$found")" = 4 ] && [ "$(sort -u <<<"$found" | wc -l)" = 1 ] || { echo "bindings of versions $found" && exit 1; }
+}
+
 test_c() {
     cc -O1 -Wall -Wextra -Werror -Ibindings/c bindings/c/run_scripts.c bindings/out/libsyned.a -lpthread -o "$rows/run_scripts"
     "$rows/run_scripts" "$rows"
     cc -O1 -Wall -Wextra -Werror -Ibindings/c examples/first.c bindings/out/libsyned.a -o "$rows/first"
     # The example edits as plain text would: each `1` of the list becomes `one`.
-    [ "$("$rows/first" '(1, 21, 1)')" = '(one, 21, one)' ] || { echo 'c: examples/first.c prints something else' && exit 1; }
+    is_first "$rows/first"
+    # The same with the shared library, which has a version of its own in its name, as pkg-config says to link it.
+    if command -v pkg-config >/dev/null; then
+        # shellcheck disable=SC2046
+        cc examples/first.c $(PKG_CONFIG_PATH=bindings/c pkg-config --cflags --libs syned) -o "$rows/shared"
+        LD_LIBRARY_PATH=bindings/out is_first "$rows/shared"
+    fi
+}
+
+is_first() {
+    [ "$("$1" '(1, 21, 1)')" = '(one, 21, one)' ] && [ "$("$1" $'"1\t\\\n1é')" = $'"one\t\\\noneé' ] ||
+        { echo 'c: examples/first.c prints something else' && exit 1; }
 }
 
 # The example with each of its allocations made to fail: it prints all of its answer, or nothing and ends with status 3.
@@ -37,6 +58,7 @@ refuse_each() {
     echo 'c: more than 5000 allocations' && exit 1
 }
 
+versions
 test_c
 refuse_each
 SYNED_ROWS=$rows bash bindings/rust/test.sh

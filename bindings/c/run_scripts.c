@@ -1,5 +1,6 @@
 /* run_scripts FOLDER: asks syned for the answer to each NUMBER.script of a folder that bindings/scripts.py filled, with too little room and with
- * enough, and compares status, answer and sentence; on 8 threads at a time, each over all scripts. */
+ * enough, and compares status, answer and sentence; takes each answer apart, and compares what it is put together from; on 8 threads at a time,
+ * each over all scripts. */
 #include "syned.h"
 #include <pthread.h>
 #include <stdio.h>
@@ -47,6 +48,55 @@ static int is_told_without_room(struct bytes script, struct bytes answer) {
     return length == answer.length && room == 7;
 }
 
+/* Adds bytes to what an answer is put together from. */
+static uint8_t *add(uint8_t *out, const void *bytes, size_t length) {
+    memcpy(out, bytes, length);
+    return out + length;
+}
+
+/* A field of an answer from its parts: the bytes of a text without its escapes, the numbers of a path, or a word. */
+static uint8_t *put_field(uint8_t *out, struct syned_bytes field) {
+    uint8_t *text = malloc(field.length + 1);
+    size_t length = text == NULL ? SYNED_NO_TEXT : syned_unescape(field, text, field.length);
+    size_t child = 0;
+    if (length != SYNED_NO_TEXT) {
+        /* Nothing is written where a byte is missing. */
+        *out = 7;
+        size_t needed = syned_escape((struct syned_bytes){text, length}, out, field.length - 1);
+        out = *out == 7 && needed == field.length ? out + syned_escape((struct syned_bytes){text, length}, out, needed) : out;
+    } else if (field.length != 0 && field.start[0] >= '0' && field.start[0] <= '9') {
+        for (int first = 1; syned_next_child(&field, &child); first = 0) {
+            out += sprintf((char *)out, first ? "%zu" : "/%zu", child);
+        }
+    } else if (syned_is(field, ".")) {
+        out = syned_next_child(&field, &child) || field.length != 0 ? out : add(out, ".", 1);
+    } else {
+        out = add(out, field.start, field.length);
+    }
+    free(text);
+    return out;
+}
+
+/* Whether the lines, fields, texts and paths of an answer are what it consists of. */
+static int is_taken_apart(struct bytes answer) {
+    uint8_t *made = malloc(2 * answer.length + 64);
+    uint8_t *out = made;
+    struct syned_bytes rest = {answer.data, answer.length}, line, field;
+    if (made == NULL) {
+        exit(2);
+    }
+    while (syned_next_line(&rest, &line)) {
+        for (int first = 1; syned_next_field(&line, &field); first = 0) {
+            out = first ? out : add(out, " ", 1);
+            out = put_field(out, field);
+        }
+        out = add(out, "\n", 1);
+    }
+    int right = is(made, (size_t)(out - made), answer);
+    free(made);
+    return right;
+}
+
 static int is_right(struct bytes script, struct bytes answer, struct bytes said, int status) {
     size_t length = 1;
     uint8_t *room = malloc(answer.length + said.length + 1);
@@ -55,7 +105,7 @@ static int is_right(struct bytes script, struct bytes answer, struct bytes said,
     }
     int right = syned_run(script.data, script.length, room, answer.length, &length) == status && is(room, length, answer);
     length = syned_explain(script.data, script.length, room, said.length);
-    right = right && is(room, length, said) && is_told_without_room(script, answer);
+    right = right && is(room, length, said) && is_told_without_room(script, answer) && is_taken_apart(answer);
     free(room);
     return right;
 }

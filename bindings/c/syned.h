@@ -12,6 +12,12 @@
 extern "C" {
 #endif
 
+/* The version of this header. */
+#define SYNED_VERSION "0.1.0"
+
+/* The version of the library, which ends with a zero. */
+const char *syned_version(void);
+
 /* The exit statuses of `syned`. */
 enum {
     SYNED_DONE = 0,       /* the edit was made */
@@ -27,6 +33,31 @@ uint8_t syned_run(const uint8_t *script, size_t script_length, uint8_t *room, si
 /* Puts why a script has no edit at the beginning of `room` if it fits: a sentence in UTF-8, without a newline or a zero. The result is how many
  * bytes it has, whether it fits or not: 0 if the script has an edit. */
 size_t syned_explain(const uint8_t *script, size_t script_length, uint8_t *room, size_t room_length);
+
+/* Bytes that stand in the memory of somebody else, as in an answer. */
+struct syned_bytes {
+    const uint8_t *start;
+    size_t length;
+};
+
+/* Puts a text as a script has it between two quotes at the beginning of `room` if it fits, with the quotes; else `room` stays as it was. The
+ * result is how many bytes it has, whether it fits or not. */
+size_t syned_escape(struct syned_bytes text, uint8_t *room, size_t room_length);
+
+/* The way back, from a field of an answer such as "a\tb" with its quotes. The result is how many bytes the text has, whether it fits or not, and
+ * SYNED_NO_TEXT for what is not such a field. */
+#define SYNED_NO_TEXT SIZE_MAX
+size_t syned_unescape(struct syned_bytes field, uint8_t *room, size_t room_length);
+
+/* Each of these takes the first part off `*rest`, puts it into `*part`, and gives whether there was one: the line of an answer, without its newline;
+ * the field of a line (a text between quotes is one, with its quotes); the number of a child on a path, of which the path `.` of a root has none.
+ * `syned_next_child` also gives 0 for what is no number, and then takes nothing off: `rest->length` is 0 exactly at the end of a path. */
+int syned_next_line(struct syned_bytes *rest, struct syned_bytes *part);
+int syned_next_field(struct syned_bytes *rest, struct syned_bytes *part);
+int syned_next_child(struct syned_bytes *rest, size_t *part);
+
+/* Whether bytes are those of a word that ends with a zero. */
+int syned_is(struct syned_bytes bytes, const char *word);
 
 #ifdef __cplusplus
 }

@@ -1,8 +1,8 @@
 //! Finds `libsyned.a` and links it: in the folder that `SYNED_LIB` names, else in `bindings/out`, beside this crate.
+//! Without it the crate is checked and documented, and no program is linked.
 
 use std::env;
 use std::path::PathBuf;
-use std::process::exit;
 
 fn main() {
     println!("cargo:rerun-if-env-changed=SYNED_LIB");
@@ -13,12 +13,12 @@ fn main() {
     let archive = folder.join("libsyned.a");
     println!("cargo:rerun-if-changed={}", archive.display());
     if !archive.is_file() {
-        eprintln!(
-            "there is no {}: `bash bindings/build.sh`, at the top of the repository, makes bindings/out/libsyned.a. \
-             If it is in another folder, name that folder in the variable SYNED_LIB.",
+        println!(
+            "cargo:warning=there is no {}, so no program can be linked: `bash bindings/build.sh`, at the top of the \
+             repository, makes bindings/out/libsyned.a. If it is in another folder, name that in the variable SYNED_LIB.",
             archive.display()
         );
-        exit(1);
+        return;
     }
     // The linker may be called in another folder.
     let folder = folder.canonicalize().unwrap_or(folder);

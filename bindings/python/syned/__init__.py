@@ -10,18 +10,19 @@ A `Script` is made of trees and of changes against one of them. docs/SCRIPTS.md 
 >>> arguments = node(Kind.ARG_LIST, opening, one, *comma, two, *comma, three, closing)
 >>> root = script.edit(script.tree(arguments))
 >>> first, second, third = root[1], root[4], root[7]
->>> script.replace(first, second)
->>> script.replace(second, first)
->>> script.remove(third, Kind.COMMA)
+>>> swapped = script.replace(first, second), script.replace(second, first)
+>>> removed = script.remove(third, Kind.COMMA)
 >>> script.finish()
 Edit(text='(2, 1)', changed=((1,), (4,)), notes={})
 """
 from ._edit import Edit, ElementPath, carry_out
 from ._errors import BadScript, Failed, NoLibrary, Refusal, Refused, SynedError
 from ._kind import Kind
-from ._library import Status, explain, run
+from ._library import Status, explain, library_version, run
 from ._script import Element, Position, Script
 from ._tree import Node, Token, Tree, node, token
+
+__version__ = "0.1.0"
 
 __all__ = [
     "BadScript",
@@ -42,6 +43,7 @@ __all__ = [
     "Tree",
     "carry_out",
     "explain",
+    "library_version",
     "node",
     "run",
     "token",

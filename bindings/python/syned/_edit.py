@@ -72,5 +72,7 @@ def carry_out(script: bytes) -> Edit:
     fields = answer.decode().split()
     sentence = explain(script) or ""
     if status == Status.REFUSED:
-        raise Refused(Refusal(fields[1]), tuple(int(number) for number in fields[2:]), sentence)
+        changes = tuple(int(number) for number in fields[2:])
+        lines = tuple(int(number) for number in re.findall(r"\bline ([0-9]+)", sentence))
+        raise Refused(Refusal(fields[1]), changes, lines, sentence)
     raise BadScript(int(fields[-1]), sentence)

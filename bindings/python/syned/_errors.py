@@ -52,20 +52,21 @@ class Refused(SynedError):
     """A call of the script was refused.
 
     `refusal` says why, `changes` are the numbers of the two changes that it is about (empty for a refusal without
-    numbers), and `sentence` says it for people.
+    numbers), `lines` the numbers of the lines that it is about, counted from 1, and `sentence` says it for people.
 
     >>> from syned import carry_out
     >>> try:
     ...     carry_out(b'tree A (ARG_LIST)\\nedit R A\\ndelete R\\nfinish\\n')
     ... except Refused as error:
-    ...     print(error.refusal, error.changes, error)
-    Refusal.DELETES_ROOT () refused DeletesRoot: the root of the edited tree cannot be deleted; ...: line 3
+    ...     print(error.refusal, error.changes, error.lines, error)
+    Refusal.DELETES_ROOT () (3,) refused DeletesRoot: the root of the edited tree cannot be deleted; ...: line 3
     """
 
-    def __init__(self, refusal: Refusal, changes: Tuple[int, ...], sentence: str) -> None:
-        super().__init__(refusal, changes, sentence)
+    def __init__(self, refusal: Refusal, changes: Tuple[int, ...], lines: Tuple[int, ...], sentence: str) -> None:
+        super().__init__(refusal, changes, lines, sentence)
         self.refusal = refusal
         self.changes = changes
+        self.lines = lines
         self.sentence = sentence
 
     def __str__(self) -> str:

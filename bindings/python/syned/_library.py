@@ -1,4 +1,4 @@
-"""The two calls of libsyned, with bytes for pointers."""
+"""The calls of libsyned, with bytes for pointers."""
 import ctypes
 import os
 from enum import IntEnum
@@ -27,8 +27,10 @@ class Status(IntEnum):
 
 
 def _folder() -> Path:
-    """The folder of the library: that of SYNED_LIB, else `bindings/out`."""
-    return Path(os.environ.get("SYNED_LIB") or Path(__file__).resolve().parents[2] / "out")
+    """The folder of the library: that of SYNED_LIB, else the package's own, if it was installed, else `bindings/out`."""
+    here = Path(__file__).resolve()
+    installed = here.with_name("libsyned.so").is_file()
+    return Path(os.environ.get("SYNED_LIB") or (here.parent if installed else here.parents[2] / "out"))
 
 
 @lru_cache(maxsize=None)
@@ -47,11 +49,23 @@ def _load(path: Path) -> ctypes.CDLL:
     library.syned_run.restype = ctypes.c_uint8
     library.syned_explain.argtypes = script_and_room
     library.syned_explain.restype = ctypes.c_size_t
+    library.syned_version.argtypes = []
+    library.syned_version.restype = ctypes.c_char_p
     return library
 
 
 def _library() -> ctypes.CDLL:
     return _load(_folder() / "libsyned.so")
+
+
+def library_version() -> str:
+    """The version of the library that is loaded. That of the package is `__version__`.
+
+    >>> from syned import __version__
+    >>> library_version() == __version__
+    True
+    """
+    return str(_library().syned_version().decode())
 
 
 def _check(script: bytes) -> None:

@@ -1,20 +1,23 @@
 """Scripts, written line by line."""
 import re
 from dataclasses import dataclass
-from typing import Iterator, List, Tuple
+from typing import Iterable, Iterator, List, Optional, Set, Tuple
 
 from ._edit import Edit, carry_out
+from ._errors import SynedError
 from ._kind import Kind
 from ._tree import Node, Token, Tree, expression
 
 _WORD = re.compile("[A-Za-z][A-Za-z0-9_]{0,31}")
 
 
-@dataclass(frozen=True)
+@dataclass(frozen=True, eq=False, repr=False)
 class Element:
     """An element of a tree of a script: `Script.tree` and `Script.edit` return roots, and `child` leads down.
 
-    `name` is what the script calls the tree, `path` the child numbers on the way, `tree` what was given for it.
+    `name` is what the script calls the tree, `path` the child numbers on the way, `tree` what was given for it, and
+    `parent` the element above it, None of a root. Two are equal if they have the same script, name and path: no tree
+    is compared or printed.
 
     >>> from syned import Kind, Script, node, token
     >>> root = Script().tree(node(Kind.ARG_LIST, token(Kind.L_PAREN, "("), token(Kind.R_PAREN, ")")))
@@ -22,12 +25,15 @@ class Element:
     ('T0/1', ')')
     >>> [child.kind.value for child in root]
     ['L_PAREN', 'R_PAREN']
+    >>> root[1].parent == root, root[1]
+    (True, <Element T0/1 R_PAREN>)
     """
 
     script: "Script"
     name: str
     path: Tuple[int, ...]
     tree: Tree
+    parent: "Optional[Element]" = None
 
     @property
     def kind(self) -> Kind:
@@ -49,6 +55,16 @@ class Element:
         """
         return self.tree.text
 
+    @property
+    def children(self) -> "Tuple[Element, ...]":
+        """All children, in order; a token has none. `iter(element)` goes over the same.
+
+        >>> from syned import Kind, Script, node, token
+        >>> Script().tree(node(Kind.LITERAL, token(Kind.INT_NUMBER, "1"))).children
+        (<Element T0/0 INT_NUMBER>,)
+        """
+        return tuple(self)
+
     def child(self, number: int) -> "Element":
         """The child of this number, counted from 0. An IndexError if there is none. `element[number]` is the same.
 
@@ -64,7 +80,21 @@ class Element:
         children = () if isinstance(self.tree, Token) else self.tree.children
         if not 0 <= number < len(children):
             raise IndexError(f"{self} has no child {number}")
-        return Element(self.script, self.name, self.path + (number,), children[number])
+        return Element(self.script, self.name, self.path + (number,), children[number], self)
+
+    def at(self, path: Iterable[int]) -> "Element":
+        """The element at the end of a path that begins here: a child's number for each step down. An IndexError if the
+        path leads nowhere.
+
+        >>> from syned import Kind, Script, node, token
+        >>> root = Script().tree(node(Kind.ATTR, node(Kind.NAME, token(Kind.IDENT, "a"))))
+        >>> root.at((0, 0)) == root[0][0], root.at(()) == root
+        (True, True)
+        """
+        element = self
+        for number in path:
+            element = element.child(number)
+        return element
 
     def __getitem__(self, number: int) -> "Element":
         return self.child(number)
@@ -73,8 +103,19 @@ class Element:
         count = 0 if isinstance(self.tree, Token) else len(self.tree.children)
         return (self.child(number) for number in range(count))
 
+    def __eq__(self, other: object) -> bool:
+        if not isinstance(other, Element):
+            return NotImplemented
+        return self.script is other.script and (self.name, self.path) == (other.name, other.path)
+
+    def __hash__(self) -> int:
+        return hash((id(self.script), self.name, self.path))
+
     def __str__(self) -> str:
         return "/".join((self.name, *map(str, self.path)))
+
+    def __repr__(self) -> str:
+        return f"<Element {self} {self.kind.value}>"
 
 
 @dataclass(frozen=True)
@@ -137,7 +178,10 @@ class Script:
     """A script, with a method for each word that begins a line. It names its trees itself.
 
     A line isn't carried out when it is recorded: `finish` carries out all, and raises what docs/SCRIPTS.md calls a
-    refusal or a bad line. `str(script)` is the script as it is so far, `bytes(script)` what is carried out.
+    refusal or a bad line. It leaves the script as it is, which can go on, and be finished again. `str(script)` is the
+    script as it is so far, `bytes(script)` what `finish` carries out.
+
+    What records a line gives its number, counted from 1, as errors name it; `take_back` takes such a line back.
 
     >>> from syned import Kind, Script, node, token
     >>> script = Script()
@@ -145,6 +189,7 @@ class Script:
     >>> root = script.edit(script.tree(node(Kind.ARG_LIST, one, token(Kind.COMMA, ","), one)))
     >>> new = script.tree(node(Kind.SOURCE_FILE, token(Kind.UNDERSCORE, "_")))
     >>> script.replace(root[0], new[0])
+    4
     >>> script.finish()
     Edit(text='_,1', changed=((0,),), notes={})
     >>> print(script, end="")
@@ -152,25 +197,51 @@ class Script:
     edit R T0
     tree T1 (SOURCE_FILE UNDERSCORE"_")
     replace R/0 T1/0
-    finish
     """
 
     def __init__(self) -> None:
         self._lines: List[str] = []
+        # The numbers of those that can be taken back.
+        self._recorded: Set[int] = set()
         self._trees = 0
 
     def __str__(self) -> str:
         return "".join(f"{line}\n" for line in self._lines)
 
     def __bytes__(self) -> bytes:
-        return str(self).encode()
+        return f"{self}finish\n".encode()
 
-    def _record(self, word: str, *elements: Element) -> None:
+    def _line(self, word: str, *elements: Element) -> str:
         """A line of a word and elements. Those of another script are refused: their names are other trees' here."""
         for element in elements:
             if element.script is not self:
                 raise ValueError(f"{element} is an element of another script")
-        self._lines.append(" ".join((word, *map(str, elements))))
+        return " ".join((word, *map(str, elements)))
+
+    def _record(self, line: str) -> int:
+        self._lines.append(line)
+        self._recorded.add(len(self._lines))
+        return len(self._lines)
+
+    def take_back(self, line: int) -> None:
+        """Takes back the line of this number, which `map`, `note`, `order` or a change gave. It stays empty, so the other
+        lines keep their numbers. A ValueError if there is none, or if it was taken back.
+
+        >>> from syned import Kind, Script, node, token
+        >>> script = Script()
+        >>> root = script.edit(script.tree(node(Kind.NAME, token(Kind.IDENT, "a"), token(Kind.IDENT, "b"))))
+        >>> first, both = script.replace(root[0], root[1]), script.range(root[0], root[1])
+        >>> error = script.check()
+        >>> error.refusal, error.lines
+        (<Refusal.INTERSECTING: 'Intersecting'>, (3, 4))
+        >>> script.take_back(both)
+        >>> script.finish().text
+        'bb'
+        """
+        if line not in self._recorded:
+            raise ValueError(f"no call recorded line {line}, or it was taken back")
+        self._recorded.remove(line)
+        self._lines[line - 1] = ""
 
     def tree(self, tree: Node) -> Element:
         """Makes a tree, and returns its root.
@@ -197,10 +268,10 @@ class Script:
         >>> str(root)
         'R'
         """
-        self._record("edit R", target)
+        self._lines.append(self._line("edit R", target))
         return Element(self, "R", (), target.tree)
 
-    def map(self, parent: Element, old: Element, copy: Element) -> None:
+    def map(self, parent: Element, old: Element, copy: Element) -> int:
         """Says that `copy`, a child of the node `parent`, is a copy of the node `old`.
 
         If a change replaces `old` by a node that contains `copy`, changes inside `old` move into `copy`.
@@ -212,14 +283,17 @@ class Script:
         >>> block = script.tree(node(Kind.BLOCK_EXPR, token(Kind.L_CURLY, "{"), name, token(Kind.R_CURLY, "}")))
         >>> new = script.tree(node(Kind.NAME, token(Kind.IDENT, "total")))
         >>> script.map(block, root[0], block[1])
+        5
         >>> script.replace(root[0][0], new[0])
+        6
         >>> script.replace(root[0], block)
+        7
         >>> script.finish().text
         '{total}'
         """
-        self._record("map", parent, old, copy)
+        return self._record(self._line("map", parent, old, copy))
 
-    def insert(self, position: Position, element: Element, *more: Element) -> None:
+    def insert(self, position: Position, element: Element, *more: Element) -> int:
         """Inserts elements, in this order.
 
         >>> from syned import Kind, Position, Script, node, token
@@ -227,48 +301,52 @@ class Script:
         >>> root = script.edit(script.tree(node(Kind.TUPLE_EXPR, token(Kind.IDENT, "a"))))
         >>> new = script.tree(node(Kind.TUPLE_EXPR, token(Kind.COMMA, ","), token(Kind.IDENT, "b")))
         >>> script.insert(Position.after(root[0]), new[0], new[1])
+        4
         >>> script.finish().text
         'a,b'
         """
-        self._record(f"insert {position.where}", position.element, element, *more)
+        return self._record(self._line(f"insert {position.where}", position.element, element, *more))
 
-    def delete(self, element: Element) -> None:
+    def delete(self, element: Element) -> int:
         """Deletes an element.
 
         >>> from syned import Kind, Script, node, token
         >>> script = Script()
         >>> root = script.edit(script.tree(node(Kind.NAME, token(Kind.IDENT, "a"), token(Kind.IDENT, "b"))))
         >>> script.delete(root[0])
+        3
         >>> script.finish().text
         'b'
         """
-        self._record("delete", element)
+        return self._record(self._line("delete", element))
 
-    def replace(self, old: Element, *new: Element) -> None:
+    def replace(self, old: Element, *new: Element) -> int:
         """Replaces an element by others, in this order. By none, it is a change of its own that deletes it.
 
         >>> from syned import Kind, Script, node, token
         >>> script = Script()
         >>> root = script.edit(script.tree(node(Kind.NAME, token(Kind.IDENT, "a"), token(Kind.IDENT, "b"))))
         >>> script.replace(root[0], root[1], root[0])
+        3
         >>> script.finish().text
         'bab'
         """
-        self._record("replace", old, *new)
+        return self._record(self._line("replace", old, *new))
 
-    def range(self, first: Element, last: Element, *new: Element) -> None:
+    def range(self, first: Element, last: Element, *new: Element) -> int:
         """Replaces the siblings from the first to the last by others, or deletes them if there are no others.
 
         >>> from syned import Kind, Script, node, token
         >>> script = Script()
         >>> root = script.edit(script.tree(node(Kind.NAME, *(token(Kind.IDENT, text) for text in "abc"))))
         >>> script.range(root[0], root[1])
+        3
         >>> script.finish().text
         'c'
         """
-        self._record("range", first, last, *new)
+        return self._record(self._line("range", first, last, *new))
 
-    def remove(self, element: Element, separator: Kind) -> None:
+    def remove(self, element: Element, separator: Kind) -> int:
         """Removes an element of a list with the separator after it and one whitespace token, else with that before it.
 
         >>> from syned import Kind, Script, node, token
@@ -276,42 +354,64 @@ class Script:
         >>> items = token(Kind.IDENT, "a"), token(Kind.COMMA, ","), token(Kind.WHITESPACE, " "), token(Kind.IDENT, "b")
         >>> root = script.edit(script.tree(node(Kind.TUPLE_EXPR, *items)))
         >>> script.remove(root[3], Kind.COMMA)
+        3
         >>> script.finish().text
         'a'
         """
         if not isinstance(separator, Kind):
             raise TypeError(f"a separator is a Kind, not {separator!r}")
-        self._record("remove", element)
-        self._lines[-1] += f" {separator.value}"
+        return self._record(f"{self._line('remove', element)} {separator.value}")
 
-    def note(self, word: str, element: Element) -> None:
+    def note(self, word: str, element: Element) -> int:
         """Asks where an element is in the new tree: `Edit.notes` has it by this word, which may have several elements.
 
         >>> from syned import Kind, Script, node, token
         >>> script = Script()
         >>> root = script.edit(script.tree(node(Kind.NAME, token(Kind.IDENT, "a"), token(Kind.IDENT, "b"))))
         >>> script.note("last", root[1])
+        3
         >>> script.delete(root[0])
+        4
         >>> script.finish().notes
         {'last': ((0,),)}
         """
         if not _WORD.fullmatch(word):
             raise ValueError(f"{word!r}: a word has 1 to 32 letters, digits and underscores, a letter first")
-        self._record(f"note {word}", element)
+        return self._record(self._line(f"note {word}", element))
 
-    def order(self, *changes: int) -> None:
+    def order(self, *changes: int) -> int:
         """The order in which the changes are carried out, by their numbers, counted from 0 as they were recorded.
 
         >>> from syned import Kind, Script, node, token
         >>> script = Script()
         >>> root = script.edit(script.tree(node(Kind.NAME, *(token(Kind.IDENT, text) for text in "abc"))))
         >>> script.delete(root[0])
+        3
         >>> script.delete(root[2])
+        4
         >>> script.order(1, 0)
+        5
         >>> script.finish().text
         'b'
         """
-        self._lines.append(" ".join(("order", *(f"{change:d}" for change in changes))))
+        return self._record(" ".join(("order", *(f"{change:d}" for change in changes))))
+
+    def check(self) -> Optional[SynedError]:
+        """What `finish` would raise, or None if there is an edit.
+
+        >>> from syned import Kind, Script, node
+        >>> script = Script()
+        >>> root = script.edit(script.tree(node(Kind.SOURCE_FILE)))
+        >>> print(script.check())
+        None
+        >>> print(script.check() if script.delete(root) else "")
+        refused DeletesRoot: the root of the edited tree cannot be deleted; ...: line 3
+        """
+        try:
+            self.finish()
+        except SynedError as error:
+            return error
+        return None
 
     def finish(self) -> Edit:
         """Carries out the script. Raises `Refused`, `BadScript` or `Failed` if there is no edit.
@@ -319,11 +419,10 @@ class Script:
         >>> from syned import Kind, Script, node
         >>> script = Script()
         >>> root = script.edit(script.tree(node(Kind.SOURCE_FILE)))
-        >>> script.delete(root)
+        >>> line = script.delete(root)
         >>> script.finish()
         Traceback (most recent call last):
             ...
         syned._errors.Refused: refused DeletesRoot: the root of the edited tree cannot be deleted; ...: line 3
         """
-        self._lines.append("finish")
         return carry_out(bytes(self))

@@ -165,8 +165,9 @@ class Refusals(unittest.TestCase):
         # The sentence begins with what is printed of the refusal, and ends with the line, which is the last one unless another is named.
         printed = " ".join(["refused", refusal.value, *map(str, changes)])
         self.assertTrue(str(error).startswith(f"{printed}: "), str(error))
-        where = where or "line %d" % str(script).count("\n")
+        where = where or "line %d" % bytes(script).count(b"\n")
         self.assertTrue(str(error).endswith(f": {where}"), str(error))
+        self.assertEqual(error.lines, tuple(map(int, re.findall("line (.)", where))))
         self.assertEqual(str(error), error.sentence)
 
     def test_foreign(self):
@@ -286,9 +287,6 @@ class Mistakes(unittest.TestCase):
         script.order()
         script.order()
         self.assert_bad(script, 4)
-        script, _ = begun()
-        script.finish()
-        self.assert_bad(script, 4)
 
     def test_elements_in_the_wrong_place(self):
         script, root = begun()
@@ -344,6 +342,79 @@ class Mistakes(unittest.TestCase):
             with self.assertRaises(TypeError):
                 make()
         self.assertEqual(script.finish(), Edit("(1, 2)", (), {}))
+
+
+class Mending(unittest.TestCase):
+    """A refused script is left as it is, and can be mended."""
+
+    def test_finish_leaves_the_script(self):
+        script, root = begun()
+        before = bytes(script)
+        self.assertEqual(script.finish(), script.finish())
+        script.delete(root[1])
+        self.assertEqual(script.finish(), Edit("(, 2)", (), {}))
+        self.assertNotEqual(bytes(script), before)
+
+    def test_check(self):
+        script, root = begun()
+        self.assertIsNone(script.check())
+        line = script.delete(root)
+        self.assertEqual(line, 3)
+        error = script.check()
+        self.assertEqual((type(error), error.refusal, error.lines), (Refused, Refusal.DELETES_ROOT, (line,)))
+        script.take_back(line)
+        self.assertIsNone(script.check())
+        self.assertEqual(script.delete(root[0]), 4)
+        self.assertEqual(script.finish(), Edit("1, 2)", (), {}))
+
+    def test_lines_that_can_be_taken_back(self):
+        script, root = begun()
+        block = script.tree(BLOCK)
+        taken = [
+            script.map(block, root[1], block[1]),
+            script.insert(Position.first(root), root[0]),
+            script.delete(root[2]),
+            script.replace(root[3], root[0]),
+            script.range(root[0], root[1], root[4]),
+            script.remove(root[1], Kind.COMMA),
+            script.note("word", root),
+            script.order(0, 1),
+        ]
+        self.assertEqual(taken, list(range(4, 12)))
+        for line in taken:
+            script.take_back(line)
+        self.assertEqual(script.finish(), Edit("(1, 2)", (), {}))
+        for line in (0, 1, 2, 3, 4, 12, -1):
+            with self.assertRaises(ValueError):
+                script.take_back(line)
+
+
+class Elements(unittest.TestCase):
+    def test_ways(self):
+        _, root = begun()
+        one = root.at([1, 0])
+        self.assertEqual((str(one), one.text, one.kind), ("R/1/0", "1", Kind.INT_NUMBER))
+        self.assertEqual((one.parent, one.parent.parent, root.parent), (root[1], root, None))
+        self.assertEqual(root.children, tuple(root))
+        self.assertEqual((len(root.children), one.children), (6, ()))
+        for path in ([6], [0, 0], [1, 1]):
+            with self.assertRaises(IndexError):
+                root.at(path)
+
+    def test_equal_by_place(self):
+        script, root = begun()
+        other = script.tree(ARGUMENTS)
+        self.assertEqual(len({root, root[1], root.at([1]), other, other[1], begun()[1]}), 5)
+        self.assertNotEqual(root[0], 0)
+
+    def test_nothing_walks_the_tree(self):
+        tree = node(Kind.TUPLE_EXPR)
+        for _ in range(5000):
+            tree = node(Kind.TUPLE_EXPR, tree)
+        root = Script().tree(tree)
+        self.assertEqual(repr(root[0]), "<Element T0/0 TUPLE_EXPR>")
+        self.assertEqual(hash(root[0]), hash(root[0]))
+        self.assertEqual(root[0], root[0])
 
 
 class Texts(unittest.TestCase):

@@ -61,7 +61,12 @@ pub fn edit(script: &[u8]) -> Result<Edit, Error> {
         Status::Refused => {
             let refusal = read_refusal(&answer).ok_or_else(unknown)?;
             let sentence = explain(script).unwrap_or_default();
-            Err(Error::Refused { refusal, sentence })
+            let lines = lines_of(&sentence);
+            Err(Error::Refused {
+                refusal,
+                lines,
+                sentence,
+            })
         }
         Status::BadScript => {
             let line = read_bad_line(&answer).ok_or_else(unknown)?;
@@ -74,6 +79,16 @@ pub fn edit(script: &[u8]) -> Result<Edit, Error> {
 
 fn read_refusal(answer: &str) -> Option<Refusal> {
     Refusal::read(answer.strip_prefix("refused ")?.strip_suffix('\n')?)
+}
+
+// The numbers behind the word `line`.
+fn lines_of(sentence: &str) -> Vec<usize> {
+    let mut numbers = Vec::new();
+    for part in sentence.split("line ").skip(1) {
+        let digits = part.split(|c: char| !c.is_ascii_digit()).next();
+        numbers.extend(digits.and_then(|digits| digits.parse::<usize>().ok()));
+    }
+    numbers
 }
 
 fn read_bad_line(answer: &str) -> Option<usize> {

@@ -13,6 +13,8 @@ pub enum Error {
     Refused {
         /// Which rule it breaks.
         refusal: Refusal,
+        /// The numbers of the lines that it is about, from 1.
+        lines: Vec<usize>,
         /// The same for people to read. It may change.
         sentence: String,
     },
@@ -36,6 +38,8 @@ pub enum Error {
     BesideRoot,
     /// An element or a word is another script's.
     OtherScript,
+    /// No call recorded a line of this number, or it was taken back.
+    NoLine(usize),
     /// More than [`DEPTH_LIMIT`] nodes of a tree are within each other.
     TooDeep,
     /// With this line the script would have more than [`SCRIPT_LIMIT`] bytes. The line was left out.
@@ -56,6 +60,7 @@ impl fmt::Display for Error {
             }
             Error::BesideRoot => f.write_str("nothing can stand beside a root"),
             Error::OtherScript => f.write_str("an element or a word is of another script"),
+            Error::NoLine(line) => write!(f, "no call recorded line {line}, or it was taken back"),
             Error::TooDeep => write!(
                 f,
                 "more than {DEPTH_LIMIT} nodes of a tree are within each other"

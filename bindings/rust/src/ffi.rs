@@ -1,6 +1,10 @@
-//! The two calls of `bindings/c/syned.h`, for slices. All `unsafe` code of the crate is here.
+//! The calls of `bindings/c/syned.h` that carry scripts out, for slices. All `unsafe` code of the crate is here.
+
+use std::ffi::{c_char, CStr};
 
 mod c {
+    use super::c_char;
+
     extern "C" {
         pub fn syned_run(
             script: *const u8,
@@ -15,6 +19,7 @@ mod c {
             room: *mut u8,
             room_length: usize,
         ) -> usize;
+        pub fn syned_version() -> *const c_char;
     }
 }
 
@@ -39,4 +44,10 @@ pub(crate) fn run(script: &[u8], room: &mut [u8]) -> (u8, usize) {
 pub(crate) fn explain(script: &[u8], room: &mut [u8]) -> usize {
     // SAFETY: as in `run`.
     unsafe { c::syned_explain(script.as_ptr(), script.len(), room.as_mut_ptr(), room.len()) }
+}
+
+/// The version of the library, as bytes.
+pub(crate) fn version() -> &'static [u8] {
+    // SAFETY: it gives a constant text that ends with a zero.
+    unsafe { CStr::from_ptr(c::syned_version()) }.to_bytes()
 }

@@ -44,6 +44,6 @@ mod tree;
 pub use answer::{edit, Edit, Note, Path};
 pub use error::{Error, Refusal};
 pub use kind::Kind;
-pub use run::{explain, run, Status};
+pub use run::{explain, library_version, run, Status};
 pub use script::{Editing, Element, Ordered, Position, Script, Word, SCRIPT_LIMIT};
 pub use tree::{Tree, DEPTH_LIMIT};

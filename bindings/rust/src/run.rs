@@ -1,4 +1,4 @@
-//! The two calls of the library, with room for their answers.
+//! The calls of the library that carry scripts out, with room for their answers.
 #![forbid(unsafe_code)]
 
 use crate::ffi;
@@ -46,6 +46,15 @@ pub fn run(script: &[u8]) -> (Status, Vec<u8>) {
 /// ```
 pub fn explain(script: &[u8]) -> Option<String> {
     explain_with_guess(script, 256)
+}
+
+/// The version of the library that is linked.
+///
+/// ```
+/// assert_eq!(syned::library_version(), env!("CARGO_PKG_VERSION"));
+/// ```
+pub fn library_version() -> &'static str {
+    std::str::from_utf8(ffi::version()).unwrap_or_default()
 }
 
 fn run_with_guess(script: &[u8], guess: usize) -> (Status, Vec<u8>) {

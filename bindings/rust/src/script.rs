@@ -4,14 +4,17 @@
 use crate::answer::{edit, Edit};
 use crate::error::Error;
 use crate::kind::Kind;
-use crate::tree::{Shape, Tree};
+use crate::tree::{Child, Tree};
 use std::fmt;
+use std::hash::{Hash, Hasher};
 use std::sync::atomic::{AtomicU64, Ordering};
+use std::sync::Arc;
 
 /// How many bytes a script may have.
 pub const SCRIPT_LIMIT: usize = 1_048_576;
 
-/// An element of a tree of a script: a node or a token. Whether there is one is looked at when it is used.
+/// An element of a tree of a script: a node or a token. Whether there is one is looked at when it is used; of a path that
+/// leads nowhere there is no kind, no text and no child. Two are equal if they stand at one place of one tree.
 ///
 /// ```
 /// use syned::{Error, Kind, Script, Tree};
@@ -21,16 +24,19 @@ pub const SCRIPT_LIMIT: usize = 1_048_576;
 /// let mut editing = script.edit(&file)?;
 /// let ident = editing.root().at(&[0, 0]);
 /// assert_eq!(ident, editing.root().child(0).child(0));
+/// assert_eq!((ident.kind(), ident.text().as_deref()), (Some(Kind::Ident), Some("a")));
+/// assert_eq!(ident.parent().map(|name| name.children().count()), Some(1));
 /// assert_eq!(editing.delete(&ident.child(0)), Err(Error::NoElement(vec![0, 0, 0])));
 /// editing.delete(&ident)?;
 /// assert_eq!(editing.finish()?.text, "");
 /// # Ok::<(), Error>(())
 /// ```
-#[derive(Clone, Debug, PartialEq, Eq, Hash)]
+#[derive(Clone)]
 pub struct Element {
     script: u64,
     tree: usize,
     path: Vec<usize>,
+    root: Arc<Child>,
 }
 
 impl Element {
@@ -46,6 +52,59 @@ impl Element {
         let mut element = self.clone();
         element.path.extend_from_slice(path);
         element
+    }
+
+    /// The node above it; a root has none.
+    pub fn parent(&self) -> Option<Element> {
+        let mut parent = self.clone();
+        parent.path.pop().map(|_| parent)
+    }
+
+    /// All its children, in order; a token has none.
+    pub fn children(&self) -> impl Iterator<Item = Element> + '_ {
+        let count = self.found().map_or(0, |found| found.children().len());
+        (0..count).map(|number| self.child(number))
+    }
+
+    /// Its kind.
+    pub fn kind(&self) -> Option<Kind> {
+        self.found().map(Child::kind)
+    }
+
+    /// The texts of all tokens below, one after the other, before the edit.
+    pub fn text(&self) -> Option<String> {
+        let mut text = String::new();
+        self.found()?.write_text(&mut text);
+        Some(text)
+    }
+
+    fn found(&self) -> Option<&Child> {
+        self.root.at(&self.path)
+    }
+
+    fn place(&self) -> (u64, usize, &[usize]) {
+        (self.script, self.tree, &self.path)
+    }
+}
+
+impl PartialEq for Element {
+    fn eq(&self, other: &Element) -> bool {
+        self.place() == other.place()
+    }
+}
+
+impl Eq for Element {}
+
+impl Hash for Element {
+    fn hash<H: Hasher>(&self, state: &mut H) {
+        self.place().hash(state);
+    }
+}
+
+/// As its script refers to it, with its kind: no tree is printed.
+impl fmt::Debug for Element {
+    fn fmt(&self, f: &mut fmt::Formatter<'_>) -> fmt::Result {
+        write!(f, "Element({self} {:?})", self.kind())
     }
 }
 
@@ -139,7 +198,8 @@ impl Script {
             lines: Lines {
                 script: NEXT.fetch_add(1, Ordering::Relaxed),
                 text: String::new(),
-                shapes: Vec::new(),
+                ends: Vec::new(),
+                roots: Vec::new(),
             },
         }
     }
@@ -155,12 +215,12 @@ impl Script {
     ///
     /// Errors: [`Error::NoElement`], [`Error::NotANode`], [`Error::OtherScript`], [`Error::TooLong`].
     pub fn edit(mut self, node: &Element) -> Result<Editing, Error> {
-        let shape = self.lines.shape_of(node)?.clone();
+        let edited = self.lines.found(node)?.clone();
         let mut line = Line::new("edit");
-        line.word(&name_of(self.lines.shapes.len()));
+        line.word(&name_of(self.lines.roots.len()));
         line.node(&self.lines, node)?;
         self.lines.push(line)?;
-        let root = self.lines.root(shape);
+        let root = self.lines.root(edited);
         Ok(Editing {
             lines: self.lines,
             root,
@@ -174,9 +234,10 @@ impl Script {
     }
 }
 
-/// Each call is a line of docs/SCRIPTS.md, which says what it does. All of them have the errors
-/// [`Error::NoElement`] for a path that leads nowhere, [`Error::OtherScript`] for an element or a word of another
-/// script, and [`Error::TooLong`]. What the library refuses only shows in [`finish`](Editing::finish).
+/// Each call is a line of docs/SCRIPTS.md, which says what it does, and gives the number of the line, counted from 1, as
+/// errors name it. All of them have the errors [`Error::NoElement`] for a path that leads nowhere,
+/// [`Error::OtherScript`] for an element or a word of another script, and [`Error::TooLong`]. What the library refuses
+/// only shows in [`check`](Editing::check) and [`finish`](Editing::finish).
 impl Editing {
     /// The root that the changes refer to: the edited node itself if it has no parent, else the root of a copy.
     pub fn root(&self) -> Element {
@@ -194,7 +255,12 @@ impl Editing {
     /// node that contains `copy`, changes inside `node` move into `copy`.
     ///
     /// Errors: also [`Error::NotANode`].
-    pub fn map(&mut self, parent: &Element, node: &Element, copy: &Element) -> Result<(), Error> {
+    pub fn map(
+        &mut self,
+        parent: &Element,
+        node: &Element,
+        copy: &Element,
+    ) -> Result<usize, Error> {
         let mut line = Line::new("map");
         for node in [parent, node, copy] {
             line.node(&self.lines, node)?;
@@ -205,7 +271,7 @@ impl Editing {
     /// `insert` of one element.
     ///
     /// Errors: also [`Error::NotANode`] and [`Error::BesideRoot`], for the position.
-    pub fn insert(&mut self, position: Position<'_>, element: &Element) -> Result<(), Error> {
+    pub fn insert(&mut self, position: Position<'_>, element: &Element) -> Result<usize, Error> {
         self.insert_all(position, std::slice::from_ref(element))
     }
 
@@ -216,7 +282,7 @@ impl Editing {
         &mut self,
         position: Position<'_>,
         elements: &[Element],
-    ) -> Result<(), Error> {
+    ) -> Result<usize, Error> {
         let mut line = Line::new("insert");
         line.position(&self.lines, position)?;
         line.elements(&self.lines, elements)?;
@@ -224,20 +290,20 @@ impl Editing {
     }
 
     /// `delete`: deletes an element.
-    pub fn delete(&mut self, element: &Element) -> Result<(), Error> {
+    pub fn delete(&mut self, element: &Element) -> Result<usize, Error> {
         let mut line = Line::new("delete");
         line.element(&self.lines, element)?;
         self.lines.push(line)
     }
 
     /// `replace` of an element by one.
-    pub fn replace(&mut self, old: &Element, new: &Element) -> Result<(), Error> {
+    pub fn replace(&mut self, old: &Element, new: &Element) -> Result<usize, Error> {
         self.replace_with_many(old, std::slice::from_ref(new))
     }
 
     /// `replace` of an element by several, in order; by one it is [`replace`](Editing::replace). By none it deletes the
     /// element, as a change of its own.
-    pub fn replace_with_many(&mut self, old: &Element, new: &[Element]) -> Result<(), Error> {
+    pub fn replace_with_many(&mut self, old: &Element, new: &[Element]) -> Result<usize, Error> {
         let mut line = Line::new("replace");
         line.element(&self.lines, old)?;
         line.elements(&self.lines, new)?;
@@ -245,7 +311,7 @@ impl Editing {
     }
 
     /// `range` without new elements: deletes the siblings from the first to the last.
-    pub fn delete_all(&mut self, first: &Element, last: &Element) -> Result<(), Error> {
+    pub fn delete_all(&mut self, first: &Element, last: &Element) -> Result<usize, Error> {
         self.replace_all(first, last, &[])
     }
 
@@ -256,7 +322,7 @@ impl Editing {
         first: &Element,
         last: &Element,
         new: &[Element],
-    ) -> Result<(), Error> {
+    ) -> Result<usize, Error> {
         let mut line = Line::new("range");
         line.element(&self.lines, first)?;
         line.element(&self.lines, last)?;
@@ -265,7 +331,7 @@ impl Editing {
     }
 
     /// `remove`: removes an element of a separated list, with a separator of this kind and the whitespace after it.
-    pub fn remove(&mut self, element: &Element, separator: Kind) -> Result<(), Error> {
+    pub fn remove(&mut self, element: &Element, separator: Kind) -> Result<usize, Error> {
         let mut line = Line::new("remove");
         line.element(&self.lines, element)?;
         line.word(separator.name());
@@ -284,7 +350,7 @@ impl Editing {
 
     /// `note`: asks where an element is in the new tree, or where its copies are. One word may have several notes.
     /// [`Edit::paths_of`] has the answer.
-    pub fn note(&mut self, word: Word, element: &Element) -> Result<(), Error> {
+    pub fn note(&mut self, word: Word, element: &Element) -> Result<usize, Error> {
         if word.script != self.lines.script {
             return Err(Error::OtherScript);
         }
@@ -303,6 +369,35 @@ impl Editing {
         }
         self.lines.push(line)?;
         Ok(Ordered { lines: self.lines })
+    }
+
+    /// Takes back the line of this number, which a call gave. It stays empty, so the other lines keep their numbers.
+    ///
+    /// ```
+    /// use syned::{Error, Kind, Script, Tree};
+    ///
+    /// let mut script = Script::new();
+    /// let file = script.tree(&Tree::new(Kind::Name).token(Kind::Ident, "a").token(Kind::Ident, "b"))?;
+    /// let mut editing = script.edit(&file)?;
+    /// let (a, b) = (editing.root().child(0), editing.root().child(1));
+    /// let one = editing.replace(&a, &b)?;
+    /// let both = editing.replace_all(&a, &b, &[])?;
+    /// assert!(matches!(editing.check(), Err(Error::Refused { lines, .. }) if lines == [one, both]));
+    /// editing.take_back(both)?;
+    /// assert_eq!(editing.finish()?.text, "bb");
+    /// # Ok::<(), Error>(())
+    /// ```
+    ///
+    /// Errors: [`Error::NoLine`] if there is none, it makes a tree or begins the edit, or was taken back.
+    pub fn take_back(&mut self, line: usize) -> Result<(), Error> {
+        self.lines.take_back(line)
+    }
+
+    /// What [`finish`](Editing::finish) would refuse. The script stays as it is, and can be mended.
+    ///
+    /// Errors: those of `finish`.
+    pub fn check(&self) -> Result<(), Error> {
+        self.lines.finish().map(|_| ())
     }
 
     /// `finish`: carries all changes out at once.
@@ -332,12 +427,14 @@ impl Ordered {
     }
 }
 
-// The lines of a script, whole, with the shapes of the trees that they make.
+// The lines of a script, whole, with the trees that they make.
 #[derive(Debug)]
 struct Lines {
     script: u64,
     text: String,
-    shapes: Vec<Shape>,
+    // Where each line ends, behind its newline.
+    ends: Vec<usize>,
+    roots: Vec<Arc<Child>>,
 }
 
 impl Lines {
@@ -346,45 +443,66 @@ impl Lines {
             return Err(Error::TooDeep);
         }
         let mut line = Line::new("tree");
-        line.word(&name_of(self.shapes.len()));
+        line.word(&name_of(self.roots.len()));
         line.tree(tree);
         self.push(line)?;
-        Ok(self.root(tree.shape()))
+        Ok(self.root(Child::Node(tree.clone())))
     }
 
     // The root of the tree that has been made.
-    fn root(&mut self, shape: Shape) -> Element {
-        let tree = self.shapes.len();
-        self.shapes.push(shape);
+    fn root(&mut self, root: Child) -> Element {
+        let (tree, root) = (self.roots.len(), Arc::new(root));
+        self.roots.push(Arc::clone(&root));
         Element {
             script: self.script,
             tree,
             path: Vec::new(),
+            root,
         }
     }
 
-    fn shape_of(&self, element: &Element) -> Result<&Shape, Error> {
+    fn found(&self, element: &Element) -> Result<&Child, Error> {
         if element.script != self.script {
             return Err(Error::OtherScript);
         }
-        let tree = self.shapes.get(element.tree);
-        let shape = tree.and_then(|tree| tree.at(&element.path));
-        shape.ok_or_else(|| Error::NoElement(element.path.clone()))
+        let root = self.roots.get(element.tree);
+        let found = root.and_then(|root| root.at(&element.path));
+        found.ok_or_else(|| Error::NoElement(element.path.clone()))
     }
 
-    // A line that makes the script too long is left out.
-    fn push(&mut self, line: Line) -> Result<(), Error> {
+    // Adds a line, and gives its number. One that makes the script too long is left out.
+    fn push(&mut self, line: Line) -> Result<usize, Error> {
         if self.text.len() + line.text.len() + 1 > SCRIPT_LIMIT {
             return Err(Error::TooLong);
         }
         self.text.push_str(&line.text);
         self.text.push('\n');
+        self.ends.push(self.text.len());
+        Ok(self.ends.len())
+    }
+
+    // Leaves the line of a number empty, unless it makes a tree, begins the edit, or is empty.
+    fn take_back(&mut self, number: usize) -> Result<(), Error> {
+        let before = number.checked_sub(1).ok_or(Error::NoLine(number))?;
+        let end = *self.ends.get(before).ok_or(Error::NoLine(number))? - 1;
+        let start = before.checked_sub(1).map_or(0, |line| self.ends[line]);
+        let line = &self.text[start..end];
+        if line.is_empty() || line.starts_with("tree ") || line.starts_with("edit ") {
+            return Err(Error::NoLine(number));
+        }
+        self.text.replace_range(start..end, "");
+        for later in &mut self.ends[before..] {
+            *later -= end - start;
+        }
         Ok(())
     }
 
-    fn finish(mut self) -> Result<Edit, Error> {
-        self.push(Line::new("finish"))?;
-        edit(self.text.as_bytes())
+    fn finish(&self) -> Result<Edit, Error> {
+        let end = "finish\n";
+        if self.text.len() + end.len() > SCRIPT_LIMIT {
+            return Err(Error::TooLong);
+        }
+        edit(format!("{}{end}", self.text).as_bytes())
     }
 }
 
@@ -416,7 +534,7 @@ impl Line {
     }
 
     fn element(&mut self, lines: &Lines, element: &Element) -> Result<(), Error> {
-        lines.shape_of(element)?;
+        lines.found(element)?;
         self.word(&element.to_string());
         Ok(())
     }
@@ -428,9 +546,9 @@ impl Line {
     }
 
     fn node(&mut self, lines: &Lines, node: &Element) -> Result<(), Error> {
-        match lines.shape_of(node)? {
-            Shape::Node(_) => self.element(lines, node),
-            Shape::Token => Err(Error::NotANode(node.path.clone())),
+        match lines.found(node)? {
+            Child::Node(_) => self.element(lines, node),
+            Child::Token(..) => Err(Error::NotANode(node.path.clone())),
         }
     }
 

@@ -24,10 +24,42 @@ pub struct Tree {
     depth: usize,
 }
 
+/// A node or a token of a tree.
 #[derive(Clone, Debug, PartialEq, Eq)]
-enum Child {
+pub(crate) enum Child {
     Node(Tree),
     Token(Kind, String),
+}
+
+impl Child {
+    /// What a path leads to.
+    pub(crate) fn at(&self, path: &[usize]) -> Option<&Child> {
+        path.iter()
+            .try_fold(self, |here, &child| here.children().get(child))
+    }
+
+    /// Those of a node; a token has none.
+    pub(crate) fn children(&self) -> &[Child] {
+        match self {
+            Child::Node(node) => &node.children,
+            Child::Token(..) => &[],
+        }
+    }
+
+    pub(crate) fn kind(&self) -> Kind {
+        match self {
+            Child::Node(node) => node.kind,
+            Child::Token(kind, _) => *kind,
+        }
+    }
+
+    /// Writes the texts of all tokens below, one after the other.
+    pub(crate) fn write_text(&self, out: &mut String) {
+        match self {
+            Child::Node(node) => node.children.iter().for_each(|child| child.write_text(out)),
+            Child::Token(_, text) => out.push_str(text),
+        }
+    }
 }
 
 impl Tree {
@@ -97,18 +129,6 @@ impl Tree {
         }
         out.push(')');
     }
-
-    pub(crate) fn shape(&self) -> Shape {
-        Shape::Node(
-            self.children
-                .iter()
-                .map(|child| match child {
-                    Child::Node(node) => node.shape(),
-                    Child::Token(..) => Shape::Token,
-                })
-                .collect(),
-        )
-    }
 }
 
 fn write_escaped(text: &str, out: &mut String) {
@@ -121,26 +141,5 @@ fn write_escaped(text: &str, out: &mut String) {
             '\\' => out.push_str("\\\\"),
             c => out.push(c),
         }
-    }
-}
-
-/// A tree without its kinds and texts: enough to follow paths.
-#[derive(Clone, Debug)]
-pub(crate) enum Shape {
-    Token,
-    Node(Vec<Shape>),
-}
-
-impl Shape {
-    /// What a path leads to.
-    pub(crate) fn at(&self, path: &[usize]) -> Option<&Shape> {
-        let mut here = self;
-        for &child in path {
-            match here {
-                Shape::Token => return None,
-                Shape::Node(children) => here = children.get(child)?,
-            }
-        }
-        Some(here)
     }
 }

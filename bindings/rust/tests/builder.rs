@@ -390,7 +390,7 @@ fn missing_mapping() {
         said.ends_with(": changes 1 (line 5) and 0 (line 4)"),
         "{said}"
     );
-    let Error::Refused { refusal, .. } = error else {
+    let Error::Refused { refusal, lines, .. } = error else {
         panic!("{error}")
     };
     assert_eq!(
@@ -400,12 +400,16 @@ fn missing_mapping() {
             owner: 0
         }
     );
+    assert_eq!(lines, [5, 4]);
 }
 
 #[track_caller]
 fn assert_order_refused(editing: Editing, order: &[usize], wanted: Refusal) {
     let error = editing.order(order).unwrap().finish().unwrap_err();
-    let Error::Refused { refusal, sentence } = error else {
+    let Error::Refused {
+        refusal, sentence, ..
+    } = error
+    else {
         panic!("{error}")
     };
     assert_eq!(refusal, wanted);
@@ -468,6 +472,64 @@ fn too_long() {
         ),
         "{error}"
     );
+}
+
+#[test]
+fn a_refused_script_is_mended() {
+    let (mut editing, root) = list_edit();
+    let line = editing.delete(&root).unwrap();
+    let before = editing.text().to_string();
+    let refused = editing.check().unwrap_err();
+    assert!(matches!(refused, Error::Refused { lines, .. } if lines == [line]));
+    assert_eq!(editing.text(), before);
+    editing.take_back(line).unwrap();
+    assert_eq!(editing.check(), Ok(()));
+    let next = editing.delete(&root.child(1)).unwrap();
+    assert_eq!((line, next), (3, 4));
+    for line in [0, 1, 2, 3, 5, usize::MAX] {
+        assert_eq!(editing.take_back(line), Err(Error::NoLine(line)));
+    }
+    assert_edit(editing.finish(), "(, 2)", &[]);
+}
+
+#[test]
+fn elements_tell_what_they_are() {
+    let (mut editing, root) = list_edit();
+    assert_eq!(root.text().as_deref(), Some("(1, 2)"));
+    let kinds: Vec<_> = root.children().map(|child| child.kind()).collect();
+    let wanted = [
+        Kind::LParen,
+        Kind::Literal,
+        Kind::Comma,
+        Kind::Whitespace,
+        Kind::Literal,
+        Kind::RParen,
+    ];
+    assert_eq!(kinds, wanted.map(Some));
+    let two = root.at(&[4, 0]);
+    assert_eq!(
+        (two.kind(), two.text().as_deref()),
+        (Some(Kind::IntNumber), Some("2"))
+    );
+    assert_eq!(
+        two.parent().and_then(|two| two.parent()),
+        Some(root.clone())
+    );
+    assert_eq!((root.parent(), two.children().count()), (None, 0));
+    assert_eq!(format!("{two:?}"), "Element(t1/4/0 Some(IntNumber))");
+    let nowhere = two.child(0);
+    assert_eq!(
+        (nowhere.kind(), nowhere.text(), nowhere.children().count()),
+        (None, None, 0)
+    );
+    // Other trees with the same children are others.
+    let other = editing.tree(&list()).unwrap();
+    assert_ne!(other.child(1), root.child(1));
+    // The root of an inner node's copy has what is below that node.
+    let mut script = Script::new();
+    let file = script.tree(&list()).unwrap();
+    let copy = script.edit(&file.child(4)).unwrap().root();
+    assert_eq!((copy.text().as_deref(), copy.parent()), (Some("2"), None));
 }
 
 // Errors of the builder

@@ -54,7 +54,7 @@ impl Chance {
     }
 
     // The line of a call by chance, spelled here, and what the call gave.
-    fn call(&mut self, editing: &mut Editing, roots: &[Element]) -> (String, Result<(), Error>) {
+    fn call(&mut self, editing: &mut Editing, roots: &[Element]) -> (String, Result<usize, Error>) {
         let (a, b, c) = (
             self.element(roots),
             self.element(roots),
@@ -118,7 +118,16 @@ fn no_script_is_bad_and_what_is_left_out_would_be() {
             let before = editing.text().to_string();
             let (line, result) = chance.call(&mut editing, &roots);
             match result {
-                Ok(()) => assert_eq!(editing.text(), format!("{before}{line}\n")),
+                Ok(number) => {
+                    assert_eq!(editing.text(), format!("{before}{line}\n"));
+                    assert_eq!(number, before.lines().count() + 1);
+                    // Taken back, it is an empty line, and one that is recorded again stands behind that.
+                    if chance.below(8) == 0 {
+                        editing.take_back(number).unwrap();
+                        assert_eq!(editing.text(), format!("{before}\n"));
+                        assert_eq!(editing.take_back(number), Err(Error::NoLine(number)));
+                    }
+                }
                 Err(error) => {
                     left_out += 1;
                     assert_eq!(editing.text(), before);
@@ -133,7 +142,11 @@ fn no_script_is_bad_and_what_is_left_out_would_be() {
             }
         }
         let text = editing.text().to_string();
-        match editing.finish() {
+        let checked = editing.check();
+        assert_eq!(editing.text(), text);
+        let finished = editing.finish();
+        assert_eq!(checked.err(), finished.as_ref().err().cloned());
+        match finished {
             Ok(_) => done += 1,
             Err(Error::Refused { .. }) => refused += 1,
             Err(error) => panic!("{text}{error}"),

@@ -64,7 +64,18 @@ fn check_read(number: usize, row: &Row, status: Status) {
             assert_eq!(status, Status::Done, "{number}");
             assert_eq!(written(&edit), answer, "{number}.answer");
         }
-        Err(Error::Refused { refusal, sentence }) => {
+        Err(Error::Refused {
+            refusal,
+            lines,
+            sentence,
+        }) => {
+            // Each is a line of the script, which may lack an end.
+            let count = row.script.split(|byte| *byte == b'\n').count();
+            assert_eq!(lines.len(), sentence.matches("line ").count(), "{number}");
+            assert!(
+                lines.iter().all(|line| (1..=count).contains(line)),
+                "{number}"
+            );
             assert_eq!(
                 (status, &sentence),
                 (Status::Refused, &row.said),
