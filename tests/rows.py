@@ -177,6 +177,7 @@ EXCEPT = {
     "SyntaxEdit::registrations": "is what `NextEdit::next_editor` registers",
     "SyntaxEdit::copies": "is what `EditChain::find` asks of each step",
     "KindNames::new": "keeps the allocator, and asks for nothing",
+    "read_line_tree_with": "is all of `read_line_tree`, with names and a limit",
     "run_explained": "is the whole of the program `syned`, which is run here with each allocation made to fail",
     "run": "is `run_explained` without the sentence",
     "explain": "makes the sentence of `run_explained`",
