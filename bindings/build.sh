@@ -50,6 +50,6 @@ archive=$PWD/$archive
 mkdir -p bindings/out
 rm -f bindings/out/libsyned.a
 ar rcs bindings/out/libsyned.a "$room"/*.o
-# Only the two calls are exported.
-printf '{ global: syned_run; syned_explain; local: *; };\n' >"$room/exports"
+# Only the four calls are exported.
+printf '{ global: syned_run; syned_explain; syned_run_wide; syned_explain_wide; local: *; };\n' >"$room/exports"
 cc -shared -o bindings/out/libsyned.so "$room"/*.o -Wl,--version-script="$room/exports"

@@ -12,6 +12,7 @@ python3 bindings/scripts.py "$rows"
 test_c() {
     cc -O1 -Wall -Wextra -Werror -Ibindings/c bindings/c/run_scripts.c bindings/out/libsyned.a -lpthread -o "$rows/run_scripts"
     "$rows/run_scripts" "$rows"
+    "$rows/run_scripts" "$rows/wide" wide
     cc -O1 -Wall -Wextra -Werror -Ibindings/c examples/first.c bindings/out/libsyned.a -o "$rows/first"
     # The example edits as plain text would: each `1` of the list becomes `one`.
     [ "$("$rows/first" '(1, 21, 1)')" = '(one, 21, one)' ] || { echo 'c: examples/first.c prints something else' && exit 1; }

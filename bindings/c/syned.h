@@ -28,6 +28,10 @@ uint8_t syned_run(const uint8_t *script, size_t script_length, uint8_t *room, si
  * bytes it has, whether it fits or not: 0 if the script has an edit. */
 size_t syned_explain(const uint8_t *script, size_t script_length, uint8_t *room, size_t room_length);
 
+/* The same two for scripts of the wide dialect, which `syned wide` reads. */
+uint8_t syned_run_wide(const uint8_t *script, size_t script_length, uint8_t *room, size_t room_length, size_t *length);
+size_t syned_explain_wide(const uint8_t *script, size_t script_length, uint8_t *room, size_t room_length);
+
 #ifdef __cplusplus
 }
 #endif
