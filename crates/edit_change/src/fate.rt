@@ -6,7 +6,7 @@ ghost use Rattle.edit_change.specs.Fits.{Fits};
 ghost use Rattle.edit_change.specs.Nesting.{first_clash};
 ghost use Rattle.edit_change.specs.inner.Aimed.{numbered, aims_of};
 ghost use Rattle.edit_change.specs.inner.DocumentOrder.{AreSorted};
-ghost use Rattle.edit_change.specs.inner.Fate.{owner_in, is_dropped_in, is_independent_in, fate};
+ghost use Rattle.edit_change.specs.inner.Fate.{owner_in, is_dropped_in, fate};
 ghost use Rattle.edit_change.specs.inner.Open.{inside_last};
 
 use crate::aimed::Aimed;
@@ -26,16 +26,6 @@ pub enum Fate {
 }
 
 impl Fate {
-    /// Whether the change is carried out on the tree.
-    pub fn is_independent(self) -> bool
-        ensures { result ≡ is_independent_in self }
-    {
-        match self {
-            Fate::Independent => true,
-            _ => false,
-        }
-    }
-
     /// Whether the change is not carried out.
     pub fn is_dropped(self) -> bool
         ensures { result ≡ is_dropped_in self }
@@ -72,10 +62,11 @@ fn fate_inside(changes: &[Change], fates: &[Fate], region: Option<&Aimed<'_>>) -
     if !changes[number].is_keeping() {
         return Fate::Dropped;
     }
-    if fates[number].is_dropped() {
-        return Fate::Dropped;
+    match fates[number] {
+        Fate::Independent => Fate::Owned(number),
+        Fate::Dropped => Fate::Dropped,
+        Fate::Owned(_) => Fate::Owned(number),
     }
-    Fate::Owned(number)
 }
 
 /// What becomes of each change, by its number; no two of them clash. `aims` has where they aim, in document order.
