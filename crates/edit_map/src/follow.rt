@@ -39,9 +39,11 @@ impl SyntaxMapping {
         ensures followed { IfOk result (LeadsTo self.now element.now) }
         ensures is_mapping { IsMapping self.now }
     {
-        // For the proof: what is true of every mapping, and that the element is one of its tree.
+        // For the proof: what is true of every mapping.
         let _ = &self.copies;
+        // For the proof: the element is one of its tree.
         let _ = element.kind();
+        // For the proof: its path leads to it.
         let _ = element.as_green();
         let mut here = element.try_clone(alloc)?;
         'steps: while let Some(next) = self.step(alloc, &here)? {

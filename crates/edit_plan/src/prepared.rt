@@ -39,8 +39,9 @@ pub(crate) fn prepare(
         IfOk result (λ x. IsPlanned plan x.order.items x.fates.items x.places.items) }
     ensures refused { IfErr result (BuildRefuses (unregistered root.now changes.now mapping.now)) }
 {
-    // For the proof: what is true of every node and of every mapping.
+    // For the proof: what is true of every node.
     let _ = root.kind();
+    // For the proof: what is true of every mapping.
     let _ = mapping.len();
     let aims = sorted_aims(alloc, &[], changes)?;
     if let Some((first, second)) = clash_of(alloc, &aims, &[], changes)? {

@@ -113,6 +113,7 @@ impl EditPlan {
             (λ v. (edits : List TextEdit) → pieces edits ≡ v → AreTextEdits self.now edits) }
         ensures apart { IfOk result (λ v. AreApart 0 v (length (text (subtree self.now.root)))) }
     {
+        // For the proof: any two tables of places agree.
         self.agree_on_places();
         let edits = text_edits(alloc, self.planned())?;
         Ok(one_list(edits, self.root.text_len()))
@@ -142,6 +143,7 @@ impl EditPlan {
         ensures made { IfOk result (HasRewritten self.now) }
         ensures count { OnOk result (CountsTouched self.now builds.old builds.new) }
     {
+        // For the proof: a target keeps its shape.
         self.keep_shapes();
         let registered = registered_copies(alloc, &self.mapping, &self.registrations)?;
         let OnePass {
