@@ -16,10 +16,9 @@ ghost use Rattle.one_pass.specs.inner.Sought.{AreInOrder};
 
 use crate::dependent::{ByOwner, by_owner};
 use crate::given_table::{given_table, rewritten_element};
-use crate::mark_paths::mark_paths;
+use crate::mark::{Walk, mark_paths};
 use crate::marked_element::GivenTable;
 use crate::sought::{Registered, in_document_order};
-use crate::walk::Walk;
 use cst_core::{GreenElement, GreenNode, SyntaxElement, SyntaxNode};
 use edit_change::{Aimed, Change, Planned, node_for_root};
 use std::alloc::{AllocError, Global};
@@ -131,7 +130,7 @@ pub(crate) fn root_replacement(
     // For the proof: the contract speaks of the root, and the code needs the aims alone.
     let _ = root;
     for aim in aims {
-        if aim.surrounds(Some(&[])) {
+        if aim.replaces(&[]) {
             // For the proof: it brings one node.
             let _ = node_for_root(&changes[aim.change]);
             return Some(aim.change);

@@ -19,10 +19,9 @@ ghost use Rattle.one_pass.specs.inner.TextOrder.{pieces_by, PushesPiece, AreMark
 
 use crate::dependent::{ByOwner, by_owner};
 use crate::given_table::given_table;
-use crate::mark::Mark;
+use crate::mark::{Mark, Walk};
 use crate::marked_element::{GivenTable, MarkedElement};
 use crate::rewriting::{rewritten_root, root_replacement};
-use crate::walk::Walk;
 use cst_core::{GreenElement, GreenNode, SyntaxElement, SyntaxNode};
 use edit_change::{Aimed, Change, Planned, aim_path, slot_after};
 use std::alloc::{AllocError, Global};

@@ -1,56 +1,31 @@
 use Rattle.std.proofs.Common.{◌≡◌, ◌+◌, ◌<◌, ◌∙◌, ℕ, [], ◌∷◌, ◌++◌, map, length, Some, arith, ap, ap₂, sym, subst}
-use Rattle.std.proofs.Math.ListN.{length-set}
+use Rattle.std.specs.Prelude.{List, Vec, get_or}
+use Rattle.std.specs.Global.{Global}
+use Rattle.std.proofs.Math.ListN.{set, length-set}
+use Rattle.cst_core.specs.Path.{Path}
+use Rattle.edit_change.specs.Nesting.{owner}
+use Rattle.edit_change.specs.StagedChange.{staged_aim}
+use Rattle.edit_change.specs.declared.change.Change.{Change}
+use Rattle.one_pass.specs.declared.dependent.Dependent.{Dependent}
 use Rattle.std.proofs.lemmas.List.{map-append}
-use Rattle.edit_change.specs.ChangeAim.{aim, aim_path}
-use Rattle.edit_change.specs.NewTree.{moved_aim}
 use Rattle.edit_change.specs.inner.Aimed.{aims_of, numbered}
 use Rattle.edit_change.specs.inner.Fate.{owner_in}
 use Rattle.edit_change.specs.inner.OwnerPlaces.{places_in, owner_at}
 use Rattle.edit_change.proofs.Independents.{is_independent_in, one-more, passed-at, independents-whole, independent-at}
-use Rattle.edit_change.proofs.MovedAims.{change-at, owner-is, owner-at-number, any-owner-there, owned-is-inside}
+use Rattle.edit_change.proofs.MovedAims.{change-at, owner-is, owner-at-number, any-owner-there}
 use Rattle.one_pass.specs.inner.OwnerTables.{moved_dependent, dependents_in}
 use Rattle.one_pass.proofs.Dependents.{entered-here, entered-elsewhere, dependents-to, dependents-whole, none-at, one-entered}
 use Rattle.one_pass.proofs.EmptyLists.{empty-at}
 use Rattle.one_pass.proofs.dependent.by_owner.Goals as goal
-use Rattle.one_pass.proofs.dependent.by_owner.Goals.{in-Independent+in_ok-push-in-Independent, in-Dropped, in-Owned+in_ok-dependent-in-Owned+in_ok-push-in-Owned}
+use Rattle.one_pass.proofs.dependent.by_owner.Goals.{in-Independent+in_ok-push-in-Independent, in-Dropped, in-Owned+in_ok-path-in-Owned+in_ok-push-in-Owned}
 
-pub place_at-place-requires : goal.place_at-place-requires
-place_at-place-requires c =
-    let cs = c.args.changes.now in
-    let n = c.loop-number.number in
-    let o = c.in-Owned.owner in
-    let by : Some o ≡ owner_at cs n = sym (ap owner_in c.in-Owned.is) ∙ owner-at-number cs c.args.fates.now n _ c.requires.fates c.loop-number-test.true in
-    let there : o < length cs = any-owner-there cs n (Some o) by in
-    omega (arith, there, c.requires.places)
+one-owned : (cs : List Change) (places : ℕ → Path) (n : ℕ) (d : Change) (o : ℕ) (table : List (Vec Dependent Global)) (v w : Vec Dependent Global) (x : Dependent) → w.items ≡ v.items ++ x ∷ [] → n < length cs → d ≡ get_or cs n d → o < length table → v ≡ get_or table o v → owner cs d ≡ Some o → moved_dependent x ≡ (n, staged_aim cs places d) → ((c : ℕ) → dependents_in table c ≡ dependents-to cs places n c) → (c : ℕ) → dependents_in (set table o w) c ≡ dependents-to cs places (n + 1) c
+one-owned cs places n d o table v w x pushed l is fits at by moves before =
+    one-entered cs places n d l is o x table (set table o w) by moves (entered-here table o v w x fits at pushed) (entered-elsewhere table o w) before
 
-pub bounds-changes-owner : goal.bounds-changes-owner
-bounds-changes-owner c =
-    let cs = c.args.changes.now in
-    let n = c.loop-number.number in
-    let o = c.in-Owned.owner in
-    let by : Some o ≡ owner_at cs n = sym (ap owner_in c.in-Owned.is) ∙ owner-at-number cs c.args.fates.now n _ c.requires.fates c.loop-number-test.true in
-    let there : o < length cs = any-owner-there cs n (Some o) by in
-    there
-
-pub offset_bounds-changes-owner : goal.offset_bounds-changes-owner
-offset_bounds-changes-owner c =
-    let cs = c.args.changes.now in
-    let n = c.loop-number.number in
-    let o = c.in-Owned.owner in
-    let by : Some o ≡ owner_at cs n = sym (ap owner_in c.in-Owned.is) ∙ owner-at-number cs c.args.fates.now n _ c.requires.fates c.loop-number-test.true in
-    let there : o < length cs = any-owner-there cs n (Some o) by in
-    omega (arith, there, c.well_formed)
-
-pub dependent_of-requires-clause-inside : goal.dependent_of-requires-clause-inside
-dependent_of-requires-clause-inside c =
-    let cs = c.args.changes.now in
-    let n = c.loop-number.number in
-    let o = c.in-Owned.owner in
-    let by : Some o ≡ owner_at cs n = sym (ap owner_in c.in-Owned.is) ∙ owner-at-number cs c.args.fates.now n _ c.requires.fates c.loop-number-test.true in
-    let there : o < length cs = any-owner-there cs n (Some o) by in
-    let d = c.index-changes-number.result in
-    let at = change-at cs n d c.loop-number-test.true c.index-changes-number.is in
-    owned-is-inside cs d c.index-changes-owner.result o (owner-is cs n d (Some o) at by) (change-at cs o c.index-changes-owner.result there c.index-changes-owner.is)
+pub staged_path-requires-clause-owner : goal.staged_path-requires-clause-owner
+staged_path-requires-clause-owner c =
+    sym (ap owner_in c.in-Owned.is) ∙ owner-at-number c.args.changes.now c.args.fates.now c.loop-number.number _ c.requires.fates c.loop-number-test.true
 
 pub index_mut-requires : goal.index_mut-requires
 index_mut-requires c =
@@ -95,18 +70,15 @@ loop-number-preserved c =
             long = ap (λ t. length t.items) w.owned-is ∙ before.long;
             entered = subst (λ t. (k : ℕ) → dependents_in t.items k ≡ dependents-to cs places (n + 1) k) (sym w.owned-is) (none-at cs places n table l none before.entered);
           }
-      | in-Owned+in_ok-dependent-in-Owned+in_ok-push-in-Owned w ↦
+      | in-Owned+in_ok-path-in-Owned+in_ok-push-in-Owned w ↦
           let o = w.in-Owned.owner in
-          let r = w.index-changes-owner.result in
           let by : Some o ≡ owner_at cs n = sym (ap owner_in w.in-Owned.is) ∙ owner-at-number cs fates n _ c.requires.fates l in
           let there : o < length cs = any-owner-there cs n (Some o) by in
-          let at_o = change-at cs o r there w.index-changes-owner.is in
-          let x = w.in_ok-dependent-in-Owned.dependent in
-          let moves : moved_dependent x ≡ (n, moved_aim (aim_path r) (places o) (aim d)) = w.in_ok-dependent-in-Owned.ensures ∙ ap (λ p. (n, moved_aim (aim_path r) p (aim d))) w.place_at-place.ensures in
+          let fits : o < length table = omega (arith, there, before.long) in
           record {
             free = ap (λ v. aims_of v.items) w.free-is ∙ before.free ∙ sym (passed-at cs fates n _ c.requires.fates l (ap is_independent_in w.in-Owned.is));
             long = ap (λ t. length t.items) w.owned-is ∙ length-set table o _ ∙ before.long;
-            entered = subst (λ t. (k : ℕ) → dependents_in t.items k ≡ dependents-to cs places (n + 1) k) (sym w.owned-is) (one-entered cs places n d l c.index-changes-number.is o r x table _ (owner-is cs n d (Some o) at by) at_o moves (entered-here table o w.index_mut.result.now _ x (omega (arith, there, before.long)) w.index_mut.ensures.value w.in_ok-push-in-Owned.ensures.items) (entered-elsewhere table o _) before.entered);
+            entered = subst (λ t. (k : ℕ) → dependents_in t.items k ≡ dependents-to cs places (n + 1) k) (sym w.owned-is) (one-owned cs places n d o table w.index_mut.result.now _ _ w.in_ok-push-in-Owned.ensures.items l c.index-changes-number.is fits w.index_mut.ensures.value (owner-is cs n d (Some o) at by) (ap (λ a. (n, a)) (w.in_ok-path-in-Owned.ensures d at)) before.entered);
           }
     ]
 
