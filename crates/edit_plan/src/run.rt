@@ -11,12 +11,11 @@ ghost use Rattle.text_edit.specs.declared.text_edit.TextEdit.{TextEdit};
 ghost use Rattle.edit_plan.specs.PlanTextEdits.{AreTextEdits};
 ghost use Rattle.edit_plan.specs.inner.PlanRun.{IsOfRoot, IsPlanned};
 
-use crate::annotated::{annotated_paths, registered_copies};
 use crate::edit::SyntaxEdit;
 use crate::edit_error::EditError;
 use crate::engine::EditEngine;
 use crate::engine_error::EngineError;
-use crate::found::{AnnotatedElements, elements_at};
+use crate::found::{AnnotatedElements, annotated_paths, elements_at, registered_copies};
 use crate::plan::EditPlan;
 use crate::rewritten::Rewritten;
 use cst_core::{LENGTH_LIMIT, SyntaxNode, TreeIds};

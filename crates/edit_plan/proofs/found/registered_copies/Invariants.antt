@@ -2,7 +2,7 @@ use Rattle.std.proofs.Common.{◌≡◌, ◌∷◌, map, take, All}
 use Rattle.cst_core.specs.Element.{NumbersTell}
 use Rattle.cst_core.specs.SyntaxElement.{element_of}
 use Rattle.edit_map.specs.Mapping.{followed, mapped_elements}
-use Rattle.edit_plan.proofs.annotated.registered_copies.Given as goal
+use Rattle.edit_plan.proofs.found.registered_copies.Given as goal
 
 abbrev pub invariant-loop-registration : goal.invariant-loop-registration
 invariant-loop-registration l =

@@ -5,7 +5,7 @@ use Rattle.edit_change.specs.Topmost.{paths_of}
 use Rattle.edit_plan.specs.Engine.{annotated_path}
 use Rattle.edit_plan.specs.inner.Annotating.{numbered_paths}
 use Rattle.edit_change.specs.inner.PathLists.{path_lists}
-use Rattle.edit_plan.proofs.annotated.annotated_paths.Goals as goal
+use Rattle.edit_plan.proofs.found.annotated_paths.Goals as goal
 
 none-numbered : (ns : List ℕ) → numbered_paths ns [] ≡ []
 none-numbered [] = refl

@@ -2,7 +2,7 @@ use Rattle.std.proofs.Common.{sym, subst, ◌∙◌}
 use Rattle.edit_change.specs.inner.Aimed.{aims_of}
 use Rattle.edit_change.specs.inner.DocumentOrder.{AreSorted}
 use Rattle.edit_change.specs.inner.OwnerPlaces.{places_in}
-use Rattle.edit_plan.proofs.prepared.prepare.Goals as goal
+use Rattle.edit_plan.proofs.plan.prepare.Goals as goal
 
 pub sorted_aims-requires : goal.sorted_aims-requires
 sorted_aims-requires c = λ k d l. (c.args.root.now, c.requires.fit k d l)

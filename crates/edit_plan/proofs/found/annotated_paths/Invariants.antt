@@ -3,7 +3,7 @@ use Rattle.edit_change.specs.Topmost.{paths_of}
 use Rattle.edit_change.specs.inner.PathLists.{path_lists}
 use Rattle.edit_plan.specs.Engine.{annotated_path}
 use Rattle.edit_plan.specs.inner.Annotating.{numbered_paths}
-use Rattle.edit_plan.proofs.annotated.annotated_paths.Given as goal
+use Rattle.edit_plan.proofs.found.annotated_paths.Given as goal
 
 abbrev pub invariant-loop-registration : goal.invariant-loop-registration
 invariant-loop-registration l =
