@@ -3,40 +3,38 @@ ghost use Rattle.std.specs.Prelude.{◌≡◌, IsTrue, IfOk};
 ghost use Rattle.cst_core.specs.Tree.{label};
 ghost use Rattle.cst_core.specs.Element.{subtree};
 
-use crate::session::Session;
-use crate::shown::{Answer, Done, kind_name};
+use crate::elements;
+use crate::no_answer::NoAnswer;
 use crate::standing::hash_of;
-use crate::{elements, errors};
+use crate::step::{Done, Step, kind_name, made};
+use crate::trees::Trees;
 use cst_core::ast::{BlockExpr, Fn, LetStmt, StmtList};
 use cst_core::{AstNode, HasAttrs, SyntaxElement, SyntaxNode, same_shape};
 use std::alloc::{AllocError, Global};
 use std::hash::Hash;
-use test_trees::{NoAnswer, Words};
 
-/// `equal ELEMENT ELEMENT`, `form ELEMENT`, `same_shape NODE NODE`, `views NODE` or `errors TYPE`; what is none of
-/// these is of an element.
-pub fn answer(s: &mut Session, name: &str, words: &mut Words, out: &mut Answer) -> Done {
-    match name {
+/// `equal ELEMENT ELEMENT`, `form ELEMENT`, `same_shape NODE NODE` or `views NODE`; what is none of these is passed on.
+pub fn answer(trees: &Trees, step: &mut Step) -> Done {
+    match step.name {
         "equal" => {
-            let left = s.trees.element(words)?;
-            Ok(out.word(equality(&left, &s.trees.element(words)?)))
+            let (left, right) = (trees.element(step)?, trees.element(step)?);
+            Some(step.put(equality(&left, &right)))
         }
-        "form" => form(s, words, out),
+        "form" => form(trees, step),
         "same_shape" => {
-            let (left, right) = s.trees.two_nodes(words)?;
-            Ok(out.word(in_each_way(&[same_shape(&left, &right), same_shape(&right, &left)])))
+            let (left, right) = trees.two_nodes(step)?;
+            Some(step.put(in_each_way(&[same_shape(&left, &right), same_shape(&right, &left)])))
         }
-        "views" => views(s, words, out),
-        "errors" => errors::answer(words, out),
-        _ => elements::answer(s, name, words, out),
+        "views" => views(trees, step),
+        _ => elements::answer(trees, step),
     }
 }
 
 // Whether something holds in each way to ask.
 fn in_each_way(ways: &[bool]) -> &'static str {
-    if ways.iter().all(|holds| *holds) {
+    if !ways.contains(&false) {
         "yes"
-    } else if ways.iter().any(|holds| *holds) {
+    } else if ways.contains(&true) {
         "in one way and not in another"
     } else {
         "no"
@@ -61,43 +59,35 @@ fn equality(left: &SyntaxElement, right: &SyntaxElement) -> &'static str {
 }
 
 // By the node or token that is lent, and by the one that is taken, and put back.
-fn form(s: &mut Session, words: &mut Words, out: &mut Answer) -> Done {
-    let element = s.trees.element(words)?;
-    let copy = element.try_clone(s.alloc)?;
-    let lent = lent_form(&element);
-    let is_same = taken_form(element, copy) == lent;
-    Ok(out.word(if is_same { lent } else { "lent and not taken" }))
-}
-
-fn lent_form(element: &SyntaxElement) -> &'static str {
-    let node = element.as_node().map(hash_of);
-    form_of(node, element.as_token().map(hash_of), hash_of(element))
-}
-
-fn taken_form(element: SyntaxElement, copy: SyntaxElement) -> &'static str {
+fn form(trees: &Trees, step: &mut Step) -> Done {
+    let element = trees.element(step)?;
+    let copy = made(element.try_clone(step.alloc), step)?;
     let whole = hash_of(&element);
-    let (node, token) = (element.into_node(), copy.into_token());
-    let node = node.map(|it| hash_of(&SyntaxElement::from(it)));
-    let token = token.map(|it| hash_of(&SyntaxElement::from(it)));
-    form_of(node, token, whole)
-}
-
-// The form of an element with this hash, by those of the node and of the token that it is.
-fn form_of(node: Option<u64>, token: Option<u64>, whole: u64) -> &'static str {
-    match (node, token) {
-        (Some(own), None) if own == whole => "node",
-        (None, Some(own)) if own == whole => "token",
-        _ => "both or none",
-    }
+    let lent = match (element.as_node(), element.as_token()) {
+        (Some(it), None) => ("node", hash_of(it)),
+        (None, Some(it)) => ("token", hash_of(it)),
+        _ => ("both or none", whole),
+    };
+    let taken = match (element.into_node(), copy.into_token()) {
+        (Some(it), None) => ("node", hash_of(&SyntaxElement::from(it))),
+        (None, Some(it)) => ("token", hash_of(&SyntaxElement::from(it))),
+        _ => ("both or none", whole),
+    };
+    let is_same = lent.1 == whole && lent == taken;
+    Some(step.put(if is_same {
+        lent.0
+    } else {
+        "lent and not taken"
+    }))
 }
 
 // The kinds of the node's views as BlockExpr, as StmtList, as LetStmt and as Fn
-fn views(s: &mut Session, words: &mut Words, out: &mut Answer) -> Done {
-    let node = s.trees.node(words)?;
-    push_view::<BlockExpr>(&node, out);
-    push_view::<StmtList>(&node, out);
-    push_attributed_view::<LetStmt>(&node, out);
-    Ok(push_attributed_view::<Fn>(&node, out))
+fn views(trees: &Trees, step: &mut Step) -> Done {
+    let node = trees.node(step)?;
+    push_view::<BlockExpr>(&node, step);
+    push_view::<StmtList>(&node, step);
+    push_attributed_view::<LetStmt>(&node, step);
+    Some(push_attributed_view::<Fn>(&node, step))
 }
 
 // What a function over any typed node knows from the trait alone.
@@ -124,11 +114,11 @@ fn view_again<T: AstNode>(alloc: Global, view: T) -> Result<T, AllocError>
 }
 
 // The name of the kind of the node's view, `none` where there is none, after a space.
-fn push_view<T: AstNode>(node: &SyntaxNode, out: &mut Answer) {
-    out.between(" ");
-    match view_name::<T>(out.alloc, node) {
-        Ok(name) => out.word(name),
-        Err(_) => out.stop(NoAnswer::Memory),
+fn push_view<T: AstNode>(node: &SyntaxNode, step: &mut Step) {
+    step.between(" ");
+    match view_name::<T>(step.alloc, node) {
+        Ok(name) => step.put(name),
+        Err(_) => step.stop(NoAnswer::Memory),
     }
 }
 
@@ -146,6 +136,6 @@ fn view_name<T: AstNode>(alloc: Global, node: &SyntaxNode) -> Result<&'static st
     Ok(kind_name(node.kind()))
 }
 
-fn push_attributed_view<T: HasAttrs>(node: &SyntaxNode, out: &mut Answer) {
-    push_view::<T>(node, out);
+fn push_attributed_view<T: HasAttrs>(node: &SyntaxNode, step: &mut Step) {
+    push_view::<T>(node, step);
 }

@@ -1,6 +1,6 @@
 //! The lines of the table, and how far a file of it is read.
 
-use test_trees::first_word;
+use crate::words::first_word;
 
 /// A line of the table.
 #[derive(Clone, Copy)]
