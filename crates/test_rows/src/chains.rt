@@ -2,8 +2,9 @@
 
 use crate::asked::{annotation, asked};
 use crate::session::Session;
-use cst_core::SyntaxNode;
+use cst_core::{SyntaxElement, SyntaxNode};
 use edit_chain::EditChain;
+use std::alloc::AllocError;
 use syntax_editor::NextEdit;
 use test_trees::{Done, Show, Step, keep, made, say, tried};
 
@@ -26,9 +27,12 @@ pub fn answer(s: &mut Session, step: &mut Step) -> Done {
         "last_changed" => Some(step.paths(s.chains.last()?.changed_elements())),
         "find" => {
             let element = s.trees.element(step)?;
-            let found = asked(s.chains.last()?.find(step.alloc, &element), step)?;
-            step.put(if found.is_empty() { "" } else { "ok" });
-            Some(step.paths(&found))
+            found(s.chains.last()?.find(step.alloc, &element), step)
+        }
+        "copies" => {
+            let element = s.trees.element(step)?;
+            let plan = s.plans.last()?;
+            found(s.edits.last()?.copies(step.alloc, plan, &element), step)
         }
         "chain_edits" => {
             let called = s.chains.last()?.text_edits(step.alloc);
@@ -37,6 +41,12 @@ pub fn answer(s: &mut Session, step: &mut Step) -> Done {
         "cursors" => cursors(s, step),
         _ => test_trees::answer(&mut s.trees, step),
     }
+}
+
+fn found(called: Result<Vec<SyntaxElement>, AllocError>, step: &mut Step) -> Done {
+    let found = asked(called, step)?;
+    step.put(if found.is_empty() { "" } else { "ok" });
+    Some(step.paths(&found))
 }
 
 // Answers a new root, which goes by the name of the next word then.
