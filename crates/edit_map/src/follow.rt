@@ -73,7 +73,7 @@ impl SyntaxMapping {
     }
 
     // The copy of the nearest mapped one of a node and those above it, and how many slots lead to that one. A stop has a copy, but
-    // for some after a refused call; so mostly two nodes are looked up at most.
+    // for some after a refused call, so mostly two nodes are looked up.
     fn nearest_copy(
         &self,
         alloc: Global,
