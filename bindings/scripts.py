@@ -3,7 +3,7 @@
 
     scripts.py FOLDER    writes NUMBER.script, NUMBER.answer (what `syned` prints), NUMBER.said (its line on the standard error, without the
                          newline) and NUMBER.status for each script of tests/scripts, each fourth one of tests/corpus, and for damaged
-                         ones"""
+                         ones; and in FOLDER/wide for scripts of the wide dialect"""
 import random
 import subprocess
 import sys
@@ -35,18 +35,26 @@ def damaged(whole):
         yield bytes(script)
 
 
+def write(folder, program, every):
+    """Writes what a program, with its words, makes of scripts."""
+    folder.mkdir(exist_ok=True)
+    for number, script in enumerate(every):
+        ran = subprocess.run(program, input=script, capture_output=True, check=False)
+        (folder / f"{number}.script").write_bytes(script)
+        (folder / f"{number}.answer").write_bytes(ran.stdout)
+        (folder / f"{number}.said").write_bytes(ran.stderr.removesuffix(b"\n"))
+        (folder / f"{number}.status").write_text(f"{ran.returncode}\n")
+
+
 def main():
     folder, program = Path(sys.argv[1]), programs.program("syned")
     cases = [*known.known("tables", "lines", "explained"), *list(known.known("corpus"))[::4]]
     whole = [case.script for case in cases]
     every = whole + list(damaged(whole))
-    for number, script in enumerate(every):
-        ran = subprocess.run([program], input=script, capture_output=True, check=False)
-        (folder / f"{number}.script").write_bytes(script)
-        (folder / f"{number}.answer").write_bytes(ran.stdout)
-        (folder / f"{number}.said").write_bytes(ran.stderr.removesuffix(b"\n"))
-        (folder / f"{number}.status").write_text(f"{ran.returncode}\n")
-    print(f"bindings: {len(every)} scripts, {DAMAGED} of them damaged")
+    write(folder, [program], every)
+    wide = [case.script for case in known.known("wide")]
+    write(folder / "wide", [program, *known.WIDE], wide)
+    print(f"bindings: {len(every)} scripts, {DAMAGED} of them damaged, and {len(wide)} of the wide dialect")
 
 
 if __name__ == "__main__":

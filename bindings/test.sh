@@ -22,6 +22,7 @@ versions() {
 test_c() {
     cc -O1 -Wall -Wextra -Werror -Ibindings/c bindings/c/run_scripts.c bindings/out/libsyned.a -lpthread -o "$rows/run_scripts"
     "$rows/run_scripts" "$rows"
+    "$rows/run_scripts" "$rows/wide" wide
     cc -O1 -Wall -Wextra -Werror -Ibindings/c examples/first.c bindings/out/libsyned.a -o "$rows/first"
     # The example edits as plain text would: each `1` of the list becomes `one`.
     is_first "$rows/first"

@@ -367,7 +367,7 @@ def counts(scripts):
     """How often scripts end so, and changes have these fates."""
     found = collections.Counter()
     for _, lines in scripts:
-        status, answer = model.IsAnswer(text_of(lines))
+        status, answer = model.IsAnswerFor(model.SYNED, text_of(lines))
         found[answer.split(b"\n")[0].split(b" ")[1].decode() if status == 1 else ("accepted", "", "bad")[status]] += 1
         outcome = model.Means(text_of(lines))
         plan = outcome.plan

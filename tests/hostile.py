@@ -44,10 +44,11 @@ RUNS = 2
 SECONDS = 600
 
 
-def run(path, script, stack=None):
+def run(path, script, stack=None, words=()):
     """The exit status, None where the run did not end by itself within its second, and what was printed."""
     try:
-        done = subprocess.run(programs.limited(path, 1, stack), input=script, capture_output=True, env={}, timeout=60, check=False)
+        command = [*programs.limited(path, 1, stack), *words]
+        done = subprocess.run(command, input=script, capture_output=True, env={}, timeout=60, check=False)
     except subprocess.TimeoutExpired:
         return None, b""
     return (done.returncode if done.returncode >= 0 else None), done.stdout
@@ -61,7 +62,7 @@ def status_of(answer):
     return 3 if not answer else None
 
 
-# Rows: a name, a script, and its answer.
+# Rows: a name, a script, its answer, and the words after `syned`, if there are any.
 
 LIST = known.OPENING.split("edit")[0]
 REPLACED = 'text "(_, 2)"\nchanged 1\n'
@@ -149,6 +150,15 @@ def tree_rows():
         ("a text of escaped newlines", *escaped("\\n")),
         ("a text of escaped quotes", *escaped('\\"')),
         ("a text of letters", *escaped("x")),
+    ]
+
+
+def wide_rows():
+    """Trees that only the wide dialect reads, with as little stack."""
+    return [
+        ("wide: levels that all close", f"tree A {nested(100_000)}\nedit R A\nfinish\n", 'text ""\nchanged\n', *known.WIDE),
+        ("wide: an edit below 10,000 levels", *deep_answer(10_000), *known.WIDE),
+        ("wide: levels without end", filled("tree A ", "(ATTR ", "\n"), bad(1), *known.WIDE),
     ]
 
 
@@ -433,9 +443,9 @@ class Task:
 
 
 def try_row(row):
-    name, script, wanted = row
+    name, script, wanted, *words = row
     script = script if isinstance(script, bytes) else script.encode()
-    status, out = run(Task.syned, script, Task.stack)
+    status, out = run(Task.syned, script, Task.stack, words)
     if wanted is not None and (status != status_of(wanted.encode()) or out != wanted.encode()):
         return f"wrong: {name}: status {status}, it printed {out[:100]!r}, and should have printed {wanted[:100]!r}"
     if status is None or status_of(out) != status:
@@ -447,7 +457,7 @@ def try_damaged(number):
     """The status, and what is wrong."""
     script = damaged(number, Task.scripts)
     status, out = run(Task.syned, script, Task.stack)
-    meant = model.IsAnswer(script)
+    meant = model.IsAnswerFor(model.SYNED, script)
     if (status, out) != meant:
         return status, (f"wrong: damaged script {number}: status {status}, it printed {out[:200]!r}; "
                         f"the model {meant[0]}, {meant[1][:200]!r}\n{script.decode(errors='replace')}")
@@ -476,7 +486,7 @@ def needed_stack():
 
 
 def rows(pool):
-    every = line_rows() + tree_rows() + length_rows() + BYTE_ROWS + end_rows() + many_rows() + beginning_rows()
+    every = line_rows() + tree_rows() + wide_rows() + length_rows() + BYTE_ROWS + end_rows() + many_rows() + beginning_rows()
     wrong = []
     for said in pool.imap(try_row, every, chunksize=16):
         wrong += [said] if said else []

@@ -2,8 +2,8 @@
 """Scripts with known answers, and whether the program `syned` gives these, each with the exit status that goes with it.
 
     known.py            runs them all
-    known.py PART..     those of these parts: tables examples corpus lines explained ends_of_lines beginnings limits ends
-    known.py quick      without proofs, if the gate has not built `syned`: those of tables and examples, and every 24th of the corpus
+    known.py PART..     those of these parts: tables examples corpus lines explained ends_of_lines beginnings limits wide wide_limits ends
+    known.py quick      without proofs, if the gate has not built `syned`: those of tables, examples and wide, and every 24th of the corpus
 
 tests/scripts has
 
@@ -12,6 +12,7 @@ tests/scripts has
     bad_first_lines.txt, bad_ends.txt    lines that are bad as the first one, and after `finish`
     good_lines.txt      lines that change nothing
     explained.txt       scripts with their answers and what is said on the standard error
+    wide.txt            scripts for `syned wide` with their answers, some with what is said; it also has all scripts of the tables
 
 tests/corpus has scripts whose answers another program made from the definitions, each NAME with its answer NAME.stdout, and examples has
 NAME.script. A run has two seconds of processor time. The model in Python is compared with the same answers (tests/models.py)."""
@@ -23,7 +24,7 @@ import subprocess
 import sys
 from concurrent.futures import ThreadPoolExecutor
 from pathlib import Path
-from typing import NamedTuple, Optional
+from typing import NamedTuple, Optional, Tuple
 
 import programs
 
@@ -36,6 +37,8 @@ tree U (SOURCE_FILE UNDERSCORE"_")
 UNCHANGED = 'text "(1, 2)"\nchanged\n'
 # After so many wrong answers the other scripts are not run.
 MOST_WRONG = 20
+# The word that asks for the wide dialect.
+WIDE = ("wide",)
 # Of the corpus, one script in so many is run where `syned` is not built.
 SHARE = 24
 
@@ -153,16 +156,37 @@ def limits():
            + "".join("replace R/%d R\n" % slot for slot in slots) + "".join("delete R/%d\n" % slot for slot in slots), bad(24003))
 
 
-PARTS = {it.__name__: it for it in (tables, examples, corpus, lines, explained, ends_of_lines, beginnings, limits)}
+def wide():
+    """Scripts of the wide dialect; those of the other one mean the same in it."""
+    for name, script, parts in rows(read(TESTS / "scripts/wide.txt").decode()):
+        says = parts["says"].rstrip("\n") if "says" in parts else None
+        yield "wide: " + name, re.sub(r"\n+", "\n", script), parts["answer"].rstrip("\n") + "\n", says, WIDE
+    for name, script, answer in tables():
+        yield "wide: " + name, script, answer, None, WIDE
+
+
+def wide_limits():
+    """What is past the limits of the other dialect: parentheses and bytes."""
+    empty = 'text ""\nchanged\n'
+    for count in (201, 100_000):
+        yield "wide: %d parentheses" % count, nested(count), empty, None, WIDE
+    count = 200_000
+    many = "tree A (ARG_LIST%s)\nedit R A\ndelete R/%d\nfinish\n" % (' COMMA","' * count, count - 1)
+    yield "wide: a script of two megabytes", many, 'text "%s"\nchanged\n' % ("," * (count - 1)), None, WIDE
+    yield "wide: eight megabytes that are no line", b"\0" * (8 * LIMIT), bad(1), None, WIDE
+
+
+PARTS = {it.__name__: it for it in (tables, examples, corpus, lines, explained, ends_of_lines, beginnings, limits, wide, wide_limits)}
 
 
 class Known(NamedTuple):
-    """A script, its answer, and the sentence on the standard error, where that is known. What is None is not looked at."""
+    """A script, its answer, the sentence on the standard error, where that is known, and the words after `syned`. What is None is not looked at."""
 
     name: str
     script: bytes
     answer: bytes
     sentence: Optional[str] = None
+    words: Tuple[str, ...] = ()
 
     @property
     def status(self):
@@ -192,7 +216,7 @@ def run(arguments, **streams):
 def difference(case):
     """What is wrong with what `syned` says of a script, None if nothing is: a sentence goes with no edit, and none with an edit."""
     try:
-        status, out, said = run([], input=case.script)
+        status, out, said = run(case.words, input=case.script)
     except subprocess.TimeoutExpired:
         return "it does not end"
     if (status, out) != (case.status, case.answer):
@@ -236,21 +260,23 @@ def all_right(parts):
 
 
 def tried(cases):
-    """What `rt try` says of these scripts, and the names of those that end as expected."""
-    said = programs.try_cases("syned", {name: (case.script, case.answer) for name, case in cases.items()})
+    """What `rt try` says of these scripts, which are of one dialect, and the names of those that end as expected."""
+    words = next(iter(cases.values())).words
+    said = programs.try_cases("syned", {name: (case.script, case.answer) for name, case in cases.items()}, words=words)
     ended = re.findall(r"^case=(.*) run=ended status=(\d+) .*output=expected", said, re.M)
     return said, {name for name, status in ended if name in cases and int(status) == cases[name].status}
 
 
 def quick():
-    """Runs a share of the scripts without proofs, in two parts side by side."""
+    """Runs a share of the scripts without proofs, in parts side by side: one of the wide dialect, and two of the other."""
     if programs.is_built("syned"):
         return all_right([])
-    chosen = [*known("tables", "examples"), *itertools.islice(known("corpus"), 0, None, SHARE)]
+    chosen = [*known("tables", "examples", "wide"), *itertools.islice(known("corpus"), 0, None, SHARE)]
     cases = {case.name.replace("/", " "): case for case in chosen}
-    names = sorted(cases)
+    names = sorted(name for name, case in cases.items() if not case.words)
+    shares = [names[::2], names[1::2], [name for name, case in cases.items() if case.words]]
     with ThreadPoolExecutor(2) as pool:
-        parts = list(pool.map(tried, [{name: cases[name] for name in names[first::2]} for first in (0, 1)]))
+        parts = list(pool.map(tried, [{name: cases[name] for name in share} for share in shares]))
     good = set().union(*(names for _, names in parts))
     for name in sorted(cases.keys() - good)[:10]:
         print("wrong: " + name)

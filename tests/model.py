@@ -1,7 +1,8 @@
 #!/usr/bin/env python3
 """What a script of `syned` means: docs/DEFINITIONS.md and docs/SCRIPTS.md once more, as a program that takes nothing from the product.
 
-    model.py <SCRIPT    what `syned` prints for a script, with its exit status
+    model.py <SCRIPT         what `syned` prints for a script, with its exit status
+    model.py wide <SCRIPT    what `syned wide` prints
 
 tests/models.py compares it with what is known, and the editor with it.
 
@@ -907,6 +908,23 @@ def removed_run(element, kind):
     return (if_token_of(past_whitespace(element, previous_sibling), kind) or element, element)
 
 
+# Dialects
+
+SYNED, WIDE = "syned", "wide"
+
+def bytes_in(dialect):
+    """How many bytes a script has at most."""
+    return {SYNED: 1048576, WIDE: 4294967295}[dialect]
+
+def depth_in(dialect):
+    """How many parentheses may be open at once; in the wide dialect as many as a script has bytes."""
+    return {SYNED: 200, WIDE: bytes_in(WIDE)}[dialect]
+
+def names_kinds(dialect):
+    """Whether lines may give names to kinds."""
+    return dialect == WIDE
+
+
 # Tree expressions
 
 KINDS = frozenset(b"""
@@ -917,8 +935,15 @@ TUPLE_TYPE ATTR LIFETIME GENERIC_ARG_LIST USE CONST ENUM EXTERN_BLOCK EXTERN_CRA
 STRUCT TRAIT TYPE_ALIAS UNION""".split())
 ESCAPES = {b"\n": b"\\n", b"\r": b"\\r", b"\t": b"\\t", b'"': b'\\"', b"\\": b"\\\\"}
 WRITTEN = {written: byte for byte, written in ESCAPES.items()}
-DEPTH_LIMIT = 200
 PIECE = re.compile(rb'(?P<space> +)|\((?P<node>\w+)|(?P<end>\))|(?P<token>\w+)"(?P<text>(?:[^"\\]|\\[nrt"\\])*)"')
+
+def name_in(kinds, name):
+    """Whether a kind has this name: one of the 65, or one that was given it."""
+    return name in KINDS or name in kinds
+
+def next_kind(kinds):
+    """The number of the kind that is given the next name."""
+    return len(KINDS) + len(kinds)
 
 def escaped(written):
     return re.sub(rb'[\n\r\t"\\]', lambda match: ESCAPES[match.group()], written)
@@ -929,12 +954,13 @@ def tree_text(tree):
         return tree.label + b'"' + escaped(tree.bytes) + b'"'
     return b"(" + b"".join([tree.label] + [b" " + tree_text(child) for child in tree.children]) + b")"
 
-def IsLineTree(expression):
-    """The tree that this is an expression of, with only spaces between elements and nested at most 200 deep; None if there is none."""
+def IsLineTree(expression, dialect=SYNED, kinds=()):
+    """The tree that this is an expression of, with only spaces between elements, of the 65 kinds and these, and nested at most as deep as the
+    dialect allows; None if there is none."""
     nodes, place = [], 0
     while place < len(expression):
         piece = PIECE.match(expression, place)
-        if not piece or (piece["node"] or piece["token"] or b"NAME") not in KINDS:
+        if not piece or not name_in(kinds, piece["node"] or piece["token"] or b"NAME"):
             return None
         place = piece.end()
         if piece["node"]:
@@ -948,7 +974,7 @@ def IsLineTree(expression):
             if not nodes:
                 return made if place == len(expression) else None
             nodes[-1][1].append(made)
-        if len(nodes) > DEPTH_LIMIT:
+        if len(nodes) > depth_in(dialect):
             return None
     return None
 
@@ -989,9 +1015,11 @@ def _number(field):
 # What scripts mean
 
 class State:
-    """The number of the next tree, the roots, the annotation words by their first use, and what is edited."""
+    """The dialect, the names that kinds were given, the number of the next tree, the roots, the annotation words by their first use, and what is
+    edited."""
 
-    def __init__(self):
+    def __init__(self, dialect):
+        self.dialect, self.kinds = dialect, {}
         self.number, self.roots, self.words, self.editor, self.order = 1, {}, [], None, None
 
     def with_root(self, field, tree):
@@ -1045,14 +1073,27 @@ def call_in(state, said):
     if word == b"range" and len(rest) >= 2:
         first, last, *elements = elements_in(state, rest)
         return RecordCall("ReplacingAll" if elements else "DeletingAll", None, first, last, tuple(elements))
-    if word == b"remove" and len(rest) == 2 and rest[1] in KINDS:
+    if word == b"remove" and len(rest) == 2 and name_in(state.kinds, rest[1]):
         return RecordCall("DeletingAll", None, *removed_run(element_in(state, rest[0]), rest[1]))
     raise Bad
+
+def IsFree(kinds, name):
+    """A name is spelled as one of a kind, no kind has it, and there is a next kind."""
+    return re.fullmatch(rb"\w+", name) and not name_in(kinds, name) and next_kind(kinds) < 2 ** 16
+
+def KindsStep(state, names):
+    """What a line `kinds` does, which comes before any tree."""
+    if not names_kinds(state.dialect) or state.number != 1:
+        raise Bad
+    for name in names:
+        if not IsFree(state.kinds, name):
+            raise Bad
+        state.kinds[name] = next_kind(state.kinds)
 
 def tree_step(state, line):
     """What a line `tree` does. No tree of a line is too long."""
     parts = re.fullmatch(rb" *tree +([^ ]+) +([^ ].*?) *", line_text(line), re.DOTALL)
-    tree = IsLineTree(parts[2]) if parts else None
+    tree = IsLineTree(parts[2], state.dialect, state.kinds) if parts else None
     if not tree or _name(parts[1]) in state.roots:
         raise Bad
     state.with_root(parts[1], tree)
@@ -1097,6 +1138,8 @@ def record_step(state, call):
 def Steps(state, line):
     """What a line does that does not end the script."""
     said = fields(line)
+    if said[0] == b"kinds":
+        return KindsStep(state, said[1:])
     if said[0] == b"tree":
         return tree_step(state, line)
     if said[0] == b"edit":
@@ -1123,9 +1166,9 @@ def EndRefuses(plan, order):
     """Why `finish` does not carry the changes out: the plan comes first, then the order, then the new tree."""
     return BuildRefuses(plan) or (OrderRefuses(plan, order) if order is not None else None) or ("TooLong" if TextIsTooLong(plan) else None)
 
-def Means(script):
-    """How a script ends. After `finish` the first line that is not blank is bad, and without one the line after the last."""
-    state, lines = State(), lines_in(script)
+def MeansFor(dialect, script):
+    """How a script of a dialect ends. After `finish` the first line that is not blank is bad, and without one the line after the last."""
+    state, lines = State(dialect), lines_in(script)
     for number, line in enumerate(lines, 1):
         try:
             if not is_blank(line) and (fields(line) != [b"finish"] or not state.editor):
@@ -1140,15 +1183,16 @@ def Means(script):
             return Outcome(None, str(why))
     return Outcome(len(lines) + 1)
 
+def Means(script):
+    return MeansFor(SYNED, script)
+
 
 # Answers of `syned`
 
-SCRIPT_LIMIT = 1048576
-
-def IsNoScript(script):
-    """Bytes that are too many for a script, or not UTF-8."""
+def IsNoScript(script, dialect=SYNED):
+    """Bytes that are too many for a script of a dialect, or not UTF-8."""
     try:
-        return len(script) > SCRIPT_LIMIT or script.decode("utf-8") is None
+        return len(script) > bytes_in(dialect) or script.decode("utf-8") is None
     except UnicodeDecodeError:
         return True
 
@@ -1160,9 +1204,9 @@ def edit_text(plan, words):
     notes = ["note %s%s\n" % (word.decode(), paths_text(found_for(plan, number))) for number, word in enumerate(words, 1)]
     return b'text "' + escaped(text(new_tree(plan))) + b'"\n' + "".join(["changed%s\n" % paths_text(changed(plan))] + notes).encode()
 
-def IsAnswer(script):
+def IsAnswerFor(dialect, script):
     """The exit status of a run, and what it prints."""
-    outcome = Outcome(0) if IsNoScript(script) else Means(script)
+    outcome = Outcome(0) if IsNoScript(script, dialect) else MeansFor(dialect, script)
     if outcome.bad_line is not None:
         return 2, b"bad script line %d\n" % outcome.bad_line
     if outcome.refusal:
@@ -1172,9 +1216,9 @@ def IsAnswer(script):
 # The program
 
 if __name__ == "__main__":
-    if len(sys.argv) > 1:
+    if sys.argv[1:] not in ([], [WIDE]):
         print(__doc__)
         sys.exit(0 if sys.argv[1:] == ["--help"] else 2)
-    STATUS, ANSWER = IsAnswer(sys.stdin.buffer.read())
+    STATUS, ANSWER = IsAnswerFor(WIDE if sys.argv[1:] else SYNED, sys.stdin.buffer.read())
     sys.stdout.buffer.write(ANSWER)
     sys.exit(STATUS)

@@ -94,15 +94,17 @@ def try_program(name, *flags, root=ROOT, given=subprocess.DEVNULL, errors=subpro
     return subprocess.run(command, cwd=f"{root}/crates/{name}", text=True, check=False, **streams)
 
 
-def try_cases(name, cases, *flags):
-    """What `rt try --cases` says of a program that reads each of these texts. A case is a name with a text and with the answer, or None."""
+def try_cases(name, cases, *flags, words=()):
+    """What `rt try --cases` says of a program that is called with these words and reads each of these texts. A case is a name with a text and
+    with the answer, or None."""
     with tempfile.TemporaryDirectory() as folder:
         for case, (text, answer) in cases.items():
             for file, content in ((case, text), (f"{case}.stdout", answer)):
                 if content is not None:
                     Path(folder, file.replace("/", " ")).write_bytes(content.encode() if isinstance(content, str) else content)
         # What a case prints and what is said of it come on two streams, in turns.
-        return try_program(name, *flags, "--cases", folder, errors=subprocess.STDOUT).stdout
+        after = ["--", *words] if words else []
+        return try_program(name, *flags, "--cases", folder, *after, errors=subprocess.STDOUT).stdout
 
 
 def calling_program():

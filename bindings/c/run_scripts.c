@@ -1,6 +1,6 @@
-/* run_scripts FOLDER: asks syned for the answer to each NUMBER.script of a folder that bindings/scripts.py filled, with too little room and with
- * enough, and compares status, answer and sentence; takes each answer apart, and compares what it is put together from; on 8 threads at a time,
- * each over all scripts. */
+/* run_scripts FOLDER [wide]: asks syned for the answer to each NUMBER.script of a folder that bindings/scripts.py filled, with too little room
+ * and with enough, and compares status, answer and sentence; takes each answer apart, and compares what it is put together from; on 8 threads at a
+ * time, each over all scripts. With `wide` they are of that dialect. */
 #include "syned.h"
 #include <pthread.h>
 #include <stdio.h>
@@ -10,6 +10,8 @@
 enum { THREADS = 8 };
 
 static const char *folder;
+static uint8_t (*run)(const uint8_t *, size_t, uint8_t *, size_t, size_t *) = syned_run;
+static size_t (*explain)(const uint8_t *, size_t, uint8_t *, size_t) = syned_explain;
 
 struct bytes {
     uint8_t *data; /* never null */
@@ -44,7 +46,7 @@ static int is(const uint8_t *room, size_t length, struct bytes wanted) {
 static int is_told_without_room(struct bytes script, struct bytes answer) {
     uint8_t room = 7;
     size_t length = 1;
-    syned_run(script.data, script.length, &room, answer.length > 1 ? 1 : 0, &length);
+    run(script.data, script.length, &room, answer.length > 1 ? 1 : 0, &length);
     return length == answer.length && room == 7;
 }
 
@@ -103,8 +105,8 @@ static int is_right(struct bytes script, struct bytes answer, struct bytes said,
     if (room == NULL) {
         exit(2);
     }
-    int right = syned_run(script.data, script.length, room, answer.length, &length) == status && is(room, length, answer);
-    length = syned_explain(script.data, script.length, room, said.length);
+    int right = run(script.data, script.length, room, answer.length, &length) == status && is(room, length, answer);
+    length = explain(script.data, script.length, room, said.length);
     right = right && is(room, length, said) && is_told_without_room(script, answer) && is_taken_apart(answer);
     free(room);
     return right;
@@ -144,8 +146,12 @@ int main(int count, char **arguments) {
     pthread_t threads[THREADS];
     struct tally tallies[THREADS];
     struct tally all = {0, 0};
-    if (count != 2) {
+    if (count != 2 && (count != 3 || strcmp(arguments[2], "wide") != 0)) {
         return 2;
+    }
+    if (count == 3) {
+        run = syned_run_wide;
+        explain = syned_explain_wide;
     }
     folder = arguments[1];
     for (int i = 0; i < THREADS; i++) {

@@ -34,6 +34,10 @@ uint8_t syned_run(const uint8_t *script, size_t script_length, uint8_t *room, si
  * bytes it has, whether it fits or not: 0 if the script has an edit. */
 size_t syned_explain(const uint8_t *script, size_t script_length, uint8_t *room, size_t room_length);
 
+/* The same two for scripts of the wide dialect, which `syned wide` reads. */
+uint8_t syned_run_wide(const uint8_t *script, size_t script_length, uint8_t *room, size_t room_length, size_t *length);
+size_t syned_explain_wide(const uint8_t *script, size_t script_length, uint8_t *room, size_t room_length);
+
 /* Bytes that stand in the memory of somebody else, as in an answer. */
 struct syned_bytes {
     const uint8_t *start;

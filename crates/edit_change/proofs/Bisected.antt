@@ -1,9 +1,10 @@
 -- The first two that clash, by halving.
 --     Halved                        two changes clash below a number, and none below a lesser one
+--     second-found                  where the two numbers are one apart, the lesser is that of a second one
 --     none-below, clash-there       none clash at all; the first two that do
 use Rattle.std.specs.Prelude.{◌≡◌, ℕ, zero, suc, ◌+◌, ◌<◌, ◌≤◌, Bool, true, false, cond, List, map, find, length, Some, None, refl}
 use Rattle.std.proofs.Common.{ap, sym, subst, ◌∙◌, arith}
-use Rattle.std.proofs.lemmas.Bool.{cases_eq}
+use Rattle.std.proofs.lemmas.Bool.{cases_eq, cases_lt, false≢true}
 use mathlib.Core.Logic.{inl, inr}
 use Rattle.cst_core.specs.Path.{counted_from}
 use Rattle.edit_change.specs.Nesting.{clashes, pairs_with, first_clash}
@@ -15,6 +16,16 @@ pub record Halved (cs : List Change) (low high : ℕ) : Type 0 where
   pub less : low < high
   pub none : ClashesBelow cs low false
   pub some : ClashesBelow cs high true
+
+pub second-found : (cs : List Change) (low high : ℕ) → Halved cs low high → high ≤ low + 1 → (i : ℕ) × (i < low) × (clashes cs i low ≡ true)
+second-found cs low high halved near =
+    let some = halved.some in
+    elim (cases_lt some.1 low) [
+      | inl less ↦ absurd (false≢true (sym (halved.none some.0 some.1 some.2 less) ∙ some.4))
+      | inr past ↦
+          let same : some.1 ≡ low = omega (arith, past, some.3, near) in
+          (some.0, omega (arith, same, some.2), ap (clashes cs some.0) (sym same) ∙ some.4)
+    ]
 
 -- the first of some pairs
 find-counted : {Y : Type 0} (test : Y → Bool) (f : ℕ → Y) (a n i : ℕ) → a ≤ i → i < a + n → ((j : ℕ) → a ≤ j → j < i → test (f j) ≡ false) → test (f i) ≡ true → find test (map f (counted_from a n)) ≡ Some (f i)

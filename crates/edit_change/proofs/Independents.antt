@@ -14,13 +14,13 @@ use Rattle.cst_core.specs.Tree as tree
 use Rattle.cst_core.specs.declared.element.SyntaxElement.TheVariants.{Token}
 use Rattle.edit_change.specs.Rewriting.{NumberedAim}
 use Rattle.edit_change.specs.ChangeAim.{aim}
-use Rattle.edit_change.specs.inner.Fate.{by_owner, fate, is_independent_in}
+use Rattle.edit_change.specs.inner.Fate.{by_owner, fate}
 use Rattle.edit_change.specs.Nesting.{surroundings, region_at, is_dropped, is_independent}
 use Rattle.edit_change.specs.NewTree.{change_aims, independents}
 use Rattle.edit_change.specs.declared.change.Change.{Change}
 use Rattle.edit_change.specs.declared.change.Change.TheVariants.{ReplaceWithMany}
 use Rattle.edit_change.specs.declared.fate.Fate.{Fate}
-use Rattle.edit_change.specs.declared.fate.Fate.TheVariants.{Dropped}
+use Rattle.edit_change.specs.declared.fate.Fate.TheVariants.{Independent, Dropped}
 
 -- ---- the changes without an owner, of the first so many
 abbrev pub independents-to : List Change → ℕ → List NumberedAim
@@ -59,6 +59,10 @@ pub independents-whole : (cs : List Change) (n : ℕ) → length cs ≤ n → in
 independents-whole cs n l = ap (λ xs. change_aims (filter (λ d. is_independent cs d.1) (enumerate_from 0 xs))) (take-whole n cs l)
 
 -- ---- what a fate says
+abbrev pub is_independent_in : Fate → Bool
+is_independent_in Independent = true
+is_independent_in _ = false
+
 pub independent-in-fate : (cs : List Change) (c : Change) → is_independent_in (fate cs c) ≡ is_independent cs c
 independent-in-fate cs c = go (is_dropped cs c) (last_item (filter_map (region_at cs) (surroundings c)))
   where

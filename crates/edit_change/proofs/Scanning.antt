@@ -30,7 +30,7 @@ use Rattle.edit_change.proofs.Clashes.{clashes-at}
 use Rattle.edit_change.proofs.DocumentOrder.{OfChange, all-there}
 use Rattle.edit_change.proofs.Lists.{all-append, all_last, all_weaker}
 use Rattle.edit_change.proofs.OpenAims.{before-after, never-itself, stands-through}
-use Rattle.edit_change.proofs.Shared.{RunAt, over-run, shares-turned, shares-reaches, reaches-between, last-shares}
+use Rattle.edit_change.proofs.Shared.{RunAt, over-runs, shares-turned, shares-reaches, reaches-between, last-shares}
 use Rattle.edit_change.proofs.Sites.{replaced-aim}
 use Rattle.edit_change.proofs.Sweeping.{all-parts, order-without, order-last, order-before, has_number, has-append, all-numbered, has-each, all-both, neither, none-last, next-aim}
 
@@ -232,16 +232,6 @@ module _ (cs : List Change) (below : ℕ) (x : NumberedAim) (rest : List Numbere
               ]
 
 -- ---- over a list in code
-over-runs : (p : Path) (w : AimForm) → some_path (replaced (aim_in p w)) ≡ true → RunAt (aim_in p w) p
-over-runs p form.FirstIn h = absurd (false≢true h)
-over-runs p form.AfterElement h = absurd (false≢true h)
-over-runs p (form.Over n) h =
-    over-run p n (λ e. false≢true (sym (ap (λ k. some_path (siblings_from p k)) e ∙ none p) ∙ h))
-  where
-    none : (p : Path) → some_path (siblings_from p 0) ≡ false
-    none [] = refl
-    none (i ∷ p) = refl
-
 no-paths-none : (ps : List Path) → some_path ps ≡ false → ps ≡ []
 no-paths-none [] h = refl
 no-paths-none (p ∷ ps) h = absurd (true≢false h)

@@ -1,20 +1,23 @@
 -- When two aims share a target, in document order.
+--     same-parent                   two paths that are one have one parent and one slot
 --     shared-run, run-shared        runs of siblings share one exactly if they are of one parent, and share a slot
+--     slot-replaced                 a slot of a run
 --     shares-turned                 either way round
 --     RunAt, over-run               an aim over the top or over a run of siblings, from this path on
 --     shares-reaches                what shares a target with a later one reaches it
 --     reaches-between               what reaches one reaches those between
---     over-some, not-over, tops-share, empty-shares, top-shares-none, none-shares-top, parents-differ, slots-decide     what code tests
+--     over-some, over-runs          an aim over something
+--     shares-none, shares-there, shares-back     what code tests: nothing is replaced; one aims from what the other replaces, and the other way round
 --     last-shares                   what reaches an aim that is between two that share a target shares it
-use Rattle.std.specs.Prelude.{◌≡◌, ◌≢◌, ◌<◌, ◌≤◌, ◌+◌, ℕ, zero, suc, Bool, true, false, ◌||◌, nat_lt, List, [], ◌∷◌, ◌++◌, length, IsTrue, refl}
+use Rattle.std.specs.Prelude.{◌≡◌, ◌≢◌, ◌<◌, ◌≤◌, ◌+◌, ℕ, zero, suc, Bool, true, false, ◌||◌, nat_lt, List, [], ◌∷◌, ◌++◌, length, refl}
 use Rattle.std.specs.List.{list_any}
 use Rattle.std.proofs.Common.{ap, ap₂, sym, subst, ◌∙◌, arith, append_assoc}
-use Rattle.std.proofs.lemmas.Bool.{cases_lt, cases_eq, or_left, lt-ltb, false_from_ne_true, false≢true, true≢false}
+use Rattle.std.proofs.lemmas.Bool.{cases_Bool, cases_lt, or_left, lt-ltb, true_from_ne_false, false≢true, true≢false}
 use Rattle.std.proofs.lemmas.List.{length-append}
 use mathlib.Core.Logic.{inl, inr}
 use Rattle.cst_core.specs.Path.{Path, same_path, has_path, parent_path, last_slot, up_to}
 use Rattle.cst_core.proofs.LastSlot.{parent-and-slot}
-use Rattle.edit_change.specs.Aim.{Aim, FirstIn, AfterElement, Over}
+use Rattle.edit_change.specs.Aim.{Aim, FirstIn, AfterElement, Over, replaces}
 use Rattle.edit_change.specs.inner.Aimed.{siblings_from, aim_in, some_path}
 use Rattle.edit_change.specs.inner.Clash.{shares}
 use Rattle.edit_change.specs.inner.DocumentOrder.{on_the_way, site, is_before}
@@ -22,7 +25,7 @@ use Rattle.edit_change.specs.inner.Open.{replaced, surrounds}
 use Rattle.edit_change.specs.declared.aimed.AimForm.{AimForm}
 use Rattle.edit_change.specs.declared.aimed.AimForm.TheVariants as form
 use Rattle.edit_change.proofs.Around.{around-turned}
-use Rattle.edit_change.proofs.Paths.{same_path-true, same_path_from}
+use Rattle.edit_change.proofs.Paths.{same_path-true, same_path_from, meets}
 use Rattle.edit_change.proofs.Positions.{same-test}
 use Rattle.edit_change.proofs.Sites.{later, sooner, run, any-sibling, sibling-any, way-push, way-to, LeadsInto, up_to-leads, leads-up_to, LiesIn, between, split-back, ends-or-goes-on}
 
@@ -30,7 +33,7 @@ use Rattle.edit_change.proofs.Sites.{later, sooner, run, any-sibling, sibling-an
 abbrev pub IsShared : ℕ → ℕ → ℕ → ℕ → Type 0
 IsShared f n g m = (s : ℕ) × (f ≤ s) × (s < f + n) × (g ≤ s) × (s < g + m)
 
-same-parent : (p q : Path) (s t : ℕ) → q ++ t ∷ [] ≡ p ++ s ∷ [] → (q ≡ p) × (t ≡ s)
+pub same-parent : (p q : Path) (s t : ℕ) → q ++ t ∷ [] ≡ p ++ s ∷ [] → (q ≡ p) × (t ≡ s)
 same-parent p q s t e =
     elim (ends-or-goes-on q p t s [] e) [
       | inl ends ↦ ends
@@ -48,10 +51,11 @@ shared-run p f n q g m h =
     let e = same.1 in
     (same.0, (one.0, omega (arith, e, two.1), omega (arith, e, two.2), one.1, one.2))
 
+pub slot-replaced : (p : Path) (f n s : ℕ) → f ≤ s → s < f + n → has_path (run p f n) (p ++ s ∷ []) ≡ true
+slot-replaced p f n s l m = sibling-any (same_path (p ++ s ∷ [])) p f n s l m (same_path_from (p ++ s ∷ []) (p ++ s ∷ []) refl)
+
 pub run-shared : (p : Path) (f n g m : ℕ) → IsShared f n g m → list_any (has_path (run p f n)) (run p g m) ≡ true
-run-shared p f n g m is =
-    let there = sibling-any (same_path (p ++ is.0 ∷ [])) p f n is.0 is.1 is.2 (same_path_from (p ++ is.0 ∷ []) (p ++ is.0 ∷ []) refl) in
-    sibling-any (has_path (run p f n)) p g m is.0 is.3 is.4 there
+run-shared p f n g m is = sibling-any (has_path (run p f n)) p g m is.0 is.3 is.4 (slot-replaced p f n is.0 is.1 is.2)
 
 pub shares-turned : (a b : Aim) → shares a b ≡ shares b a
 shares-turned a b = around-turned (replaced a) (replaced b)
@@ -177,89 +181,73 @@ last-shares a o x v w q (Siblings p f n is at) (Siblings u g j is_o at_o) (Sibli
     ]
 
 -- ---- what code tests
+none-over : (ps : List Path) → some_path ps ≡ false → ps ≡ []
+none-over [] h = refl
+none-over (p ∷ ps) h = absurd (true≢false h)
+
+shares-nothing : (ps : List Path) → list_any (has_path []) ps ≡ false
+shares-nothing [] = refl
+shares-nothing (p ∷ ps) = shares-nothing ps
+
 pub over-some : (p : Path) (n : ℕ) → nat_lt 0 n ≡ some_path (siblings_from p n)
 over-some [] zero = refl
 over-some (i ∷ p) zero = refl
 over-some [] (suc n) = lt-ltb 0 (suc n) (omega arith)
 over-some (i ∷ p) (suc n) = lt-ltb 0 (suc n) (omega arith)
 
-no-over : (a : Aim) (b : Aim) → replaced a ≡ [] → false ≡ shares a b
-no-over a b none = sym (ap (λ ps. list_any (has_path ps) (replaced b)) none ∙ nothing (replaced b))
+pub over-runs : (p : Path) (w : AimForm) → some_path (replaced (aim_in p w)) ≡ true → RunAt (aim_in p w) p
+over-runs p form.FirstIn h = absurd (false≢true h)
+over-runs p form.AfterElement h = absurd (false≢true h)
+over-runs p (form.Over n) h =
+    over-run p n (λ e. false≢true (sym (ap (λ k. some_path (siblings_from p k)) e ∙ none p) ∙ h))
   where
-    nothing : (qs : List Path) → list_any (has_path []) qs ≡ false
-    nothing [] = refl
-    nothing (q ∷ qs) = nothing qs
+    none : (p : Path) → some_path (siblings_from p 0) ≡ false
+    none [] = refl
+    none (i ∷ p) = refl
 
-pub not-over : (p : Path) (w : AimForm) (b : Aim) → ((n : ℕ) → w ≡ form.Over n → ⊥) → false ≡ shares (aim_in p w) b
-not-over p form.FirstIn b never = no-over (FirstIn p) b refl
-not-over p form.AfterElement b never = no-over (AfterElement p) b refl
-not-over p (form.Over n) b never = absurd (never n refl)
+-- what replaces something replaces the element from which it aims
+own-path : (a : Aim) (p : Path) → RunAt a p → has_path (replaced a) p ≡ true
+own-path a p (Top is at) = ap₂ (λ b q. has_path (replaced b) q) is at
+own-path a p (Siblings r f k is at) = ap₂ (λ b q. has_path (replaced b) q) is at ∙ slot-replaced r f (suc k) f (omega arith) (omega arith)
 
-none-over : (p : Path) (n : ℕ) → n ≡ 0 → siblings_from p n ≡ []
-none-over [] zero e = refl
-none-over (i ∷ p) zero e = refl
-none-over p (suc n) e = absurd (omega (arith, e))
+as-replaced : (a : Aim) (p : Path) → replaces p a ≡ has_path (replaced a) p
+as-replaced (FirstIn q) p = refl
+as-replaced (AfterElement q) p = refl
+as-replaced (Over qs) p = refl
 
--- the top
-pub tops-share : (p q : Path) (n m : ℕ) → length p ≡ 0 → length q ≡ 0 → 0 < n → nat_lt 0 m ≡ shares (Over (siblings_from p n)) (Over (siblings_from q m))
-tops-share [] [] zero m e f l = absurd (omega (arith, l))
-tops-share [] [] (suc n) zero e f l = refl
-tops-share [] [] (suc n) (suc m) e f l = lt-ltb 0 (suc m) (omega arith)
-tops-share [] (j ∷ q) n m e f l = absurd (omega (arith, f))
-tops-share (i ∷ p) q n m e f l = absurd (omega (arith, e))
+module _ (v : Path) (w : AimForm) (q : Path) (x : AimForm) where
+  abbrev one : Aim
+  one = aim_in v w
 
-pub empty-shares : (p : Path) (n : ℕ) (b : Aim) → n ≡ 0 → false ≡ shares (Over (siblings_from p n)) b
-empty-shares p n b e = no-over (Over (siblings_from p n)) b (none-over p n e)
+  abbrev two : Aim
+  two = aim_in q x
 
-module _ (p q : Path) (n m : ℕ) where
-  abbrev both : Bool
-  both = shares (Over (siblings_from p n)) (Over (siblings_from q m))
+  pub shares-none : some_path (replaced one) ≡ false → false ≡ shares one two
+  shares-none h = sym (ap (λ ps. list_any (has_path ps) (replaced two)) (none-over (replaced one) h) ∙ shares-nothing (replaced two))
 
-  pub top-shares-none : length p ≡ 0 → length q ≢ 0 → false ≡ both
-  top-shares-none e some = go p q e some
+  pub shares-there : replaces q one ≡ true → some_path (replaced two) ≡ shares one two
+  shares-there h =
+      elim (cases_Bool (some_path (replaced two))) [
+        | inl some ↦ some ∙ sym (meets (replaced one) (replaced two) q (sym (as-replaced one q) ∙ h) (own-path two q (over-runs q x some)))
+        | inr none ↦ none ∙ sym (ap (λ ps. list_any (has_path (replaced one)) ps) (none-over (replaced two) none))
+      ]
+
+  pub shares-back : replaces q one ≡ false → some_path (replaced one) ≡ true → replaces v two ≡ shares one two
+  shares-back other some =
+      same-test (replaces v two) (shares one two) (λ h. meets (replaced one) (replaced two) v (own-path one v (over-runs v w some)) (sym (as-replaced two v) ∙ h)) (λ h. back (over-runs v w some) (over-runs q x (some-two h)) h)
     where
-      go : (p q : Path) → length p ≡ 0 → length q ≢ 0 → false ≡ shares (Over (siblings_from p n)) (Over (siblings_from q m))
-      go [] [] e some = absurd (some refl)
-      go (i ∷ p) q e some = absurd (omega (arith, e))
-      go [] (j ∷ q) e some =
-          elim (cases_eq n 0) [
-            | inl none ↦ empty-shares [] n (Over (siblings_from (j ∷ q) m)) none
-            | inr some_n ↦ sym (false_from_ne_true (shares (Over (siblings_from [] n)) (Over (siblings_from (j ∷ q) m))) (λ h. top-alone n some_n h))
-          ]
-        where
-          top-alone : (n : ℕ) → n ≢ 0 → shares (Over (siblings_from [] n)) (Over (siblings_from (j ∷ q) m)) ≡ true → ⊥
-          top-alone zero some h = some refl
-          top-alone (suc n) some h =
-              run-top (parent_path (j ∷ q)) (last_slot (j ∷ q)) m (shares-turned (Over (siblings_from (j ∷ q) m)) (Over ([] ∷ [])) ∙ h)
+      some-two : shares one two ≡ true → some_path (replaced two) ≡ true
+      some-two h = true_from_ne_false (some_path (replaced two)) (λ none. false≢true (sym (ap (λ ps. list_any (has_path (replaced one)) ps) (none-over (replaced two) none)) ∙ h))
 
-  pub none-shares-top : length p ≢ 0 → length q ≡ 0 → false ≡ both
-  none-shares-top some e = go p q some e
-    where
-      go : (p q : Path) → length p ≢ 0 → length q ≡ 0 → false ≡ shares (Over (siblings_from p n)) (Over (siblings_from q m))
-      go p (j ∷ q) some e = absurd (omega (arith, e))
-      go [] [] some e = absurd (some refl)
-      go (i ∷ p) [] some e = sym (false_from_ne_true (shares (Over (siblings_from (i ∷ p) n)) (Over (siblings_from [] m))) (λ h. top-alone m h))
-        where
-          top-alone : (m : ℕ) → shares (Over (siblings_from (i ∷ p) n)) (Over (siblings_from [] m)) ≡ true → ⊥
-          top-alone zero h = false≢true h
-          top-alone (suc m) h = run-top (parent_path (i ∷ p)) (last_slot (i ∷ p)) n h
-
-  module _ (some_p : length p ≢ 0) (some_q : length q ≢ 0) where
-    as-runs : both ≡ list_any (has_path (run (parent_path p) (last_slot p) n)) (run (parent_path q) (last_slot q) m)
-    as-runs = go p q some_p some_q
-      where
-        go : (p q : Path) → length p ≢ 0 → length q ≢ 0 → shares (Over (siblings_from p n)) (Over (siblings_from q m)) ≡ list_any (has_path (run (parent_path p) (last_slot p) n)) (run (parent_path q) (last_slot q) m)
-        go [] q some other = absurd (some refl)
-        go (i ∷ p) [] some other = absurd (other refl)
-        go (i ∷ p) (j ∷ q) some other = refl
-
-    pub parents-differ : (parent_path p ≡ parent_path q → ⊥) → false ≡ both
-    parents-differ other =
-        sym (false_from_ne_true both (λ h. other (sym (shared-run (parent_path p) (last_slot p) n (parent_path q) (last_slot q) m (sym as-runs ∙ h)).0)))
-
-    pub slots-decide : (b : Bool) (f g : ℕ) → parent_path p ≡ parent_path q → f ≡ last_slot p → g ≡ last_slot q → (IsTrue b → IsShared f n g m) → (IsShared f n g m → IsTrue b) → b ≡ both
-    slots-decide b f g same is_f is_g to back =
-        same-test b (list_any (has_path (run (parent_path p) (last_slot p) n)) (run (parent_path q) (last_slot q) m)) (λ h. ap (λ r. list_any (has_path (run (parent_path p) (last_slot p) n)) (run r (last_slot q) m)) (sym same) ∙ run-shared (parent_path p) (last_slot p) n (last_slot q) m (moved f g (last_slot p) (last_slot q) is_f is_g (to h))) (λ h. back (moved (last_slot p) (last_slot q) f g (sym is_f) (sym is_g) (shared-run (parent_path p) (last_slot p) n (parent_path q) (last_slot q) m h).1)) ∙ sym as-runs
-      where
-        moved : (f g h k : ℕ) → f ≡ h → g ≡ k → IsShared f n g m → IsShared h n k m
-        moved f g h k a b is = subst (λ x. IsShared x n k m) a (subst (λ y. IsShared f n y m) b is)
+      back : RunAt one v → RunAt two q → shares one two ≡ true → replaces v two ≡ true
+      back (Top is at) (Top is_b at_b) h = absurd (false≢true (sym other ∙ ap₂ replaces at_b is))
+      back (Top is at) (Siblings r g m is_b at_b) h = absurd (run-top r g (suc m) (sym (ap₂ shares is_b is) ∙ shares-turned two one ∙ h))
+      back (Siblings p f k is at) (Top is_b at_b) h = absurd (run-top p f (suc k) (sym (ap₂ shares is is_b) ∙ h))
+      back (Siblings p f k is at) (Siblings r g m is_b at_b) h =
+          let both = shared-run p f (suc k) r g (suc m) (sym (ap₂ shares is is_b) ∙ h) in
+          let s = both.1 in
+          let before : g < f = elim (cases_lt g f) [
+            | inl less ↦ less
+            | inr more ↦ absurd (false≢true (sym other ∙ ap₂ replaces (at_b ∙ ap (λ u. u ++ g ∷ []) both.0) is ∙ slot-replaced p f (suc k) g more (omega (arith, s.2, s.3))))
+          ] in
+          ap₂ replaces (at ∙ ap (λ u. u ++ f ∷ []) (sym both.0)) is_b ∙ slot-replaced r g (suc m) f (omega (arith, before)) (omega (arith, s.1, s.4))

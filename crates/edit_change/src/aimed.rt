@@ -1,19 +1,19 @@
-//! `Aimed`: a change's number with where it aims, by a path that is borrowed. Both engines work on lists of these.
+//! `Aimed`: a change's number with where it aims, by a path that is borrowed. Both engines work on lists of these. In a sweep over them
+//! in document order what is open is such a list too: replacements that lie one in another, the innermost last.
 
 ghost use Rattle.std.specs.Prelude.{ℕ, ◌<◌, ◌≤◌, ◌+◌, ◌≡◌, Bool, true, false, [], ◌∷◌, suc, not};
 ghost use Rattle.edit_change.specs.Aim.{FirstIn, AfterElement, Over, aims_at_gap, starts_at, replaces};
-ghost use Rattle.edit_change.specs.inner.Aimed.{aim_in, siblings_from, numbered, has_parent};
+ghost use Rattle.edit_change.specs.inner.Aimed.{aim_in, siblings_from, numbered, aims_of, has_parent};
 ghost use Rattle.edit_change.specs.inner.Aimed.{some_path};
-ghost use Rattle.std.specs.Prelude.{slice_get, ◌^◌, ◌↔◌, IfSome, IsTrue};
+ghost use Rattle.std.specs.Prelude.{slice_get, ◌^◌, IfSome};
 ghost use Rattle.std.specs.Cmp.Lexicographic.{slice_cmp};
 ghost use Rattle.std.specs.Ordering.{nat_cmp, is_lt};
 ghost use Rattle.std.specs.Option.{option_map_or};
 ghost use Rattle.cst_core.specs.Path.{up_to};
 ghost use Rattle.edit_change.specs.inner.Clash.{shares};
-ghost use Rattle.edit_change.specs.inner.Open.{replaced, surrounds};
+ghost use Rattle.edit_change.specs.inner.Open.{replaced, surrounds, Closes};
 ghost use Rattle.edit_change.specs.inner.DocumentOrder.{on_the_way, site, stands_before};
 
-use crate::parent::{parent, slot as last_slot};
 use std::cmp::Ordering;
 
 /// Where something aims, from the element at a path.
@@ -48,22 +48,6 @@ fn on_the_way(path: &[usize], depth: usize) -> Option<u128>
     Some(2 * (*slot as u128) + 1)
 }
 
-// Whether there is a number that is one of `count` from `first` on, and one of `other_count` from `other` on.
-fn share_slot(first: usize, count: usize, other: usize, other_count: usize) -> bool
-    ensures { IsTrue result ↔ ((s : ℕ) × (first ≤ s) × (s < first + count) × (other ≤ s) × (s < other + other_count)) }
-{
-    if count == 0 {
-        return false;
-    }
-    if other_count == 0 {
-        return false;
-    }
-    if first <= other {
-        return other - first < count;
-    }
-    first - other < other_count
-}
-
 impl<'a> Aimed<'a> {
     // Whether it alters the children of a node. A replaced top, the gap after the top and no siblings at all alter none.
     pub fn has_parent(&self) -> bool
@@ -76,31 +60,40 @@ impl<'a> Aimed<'a> {
         }
     }
 
-    /// Whether it replaces an element on the way to a path; none if there is no path.
-    pub fn surrounds(&self, path: Option<&[usize]>) -> bool
-        ensures { result ≡ surrounds (option_map_or (λ p. up_to p.now) path.entry [])
-            (aim_in self.now.path.now self.now.form) }
+    /// Whether it replaces the element at a path.
+    pub fn replaces(&self, path: &[usize]) -> bool
+        ensures { result ≡ replaces path.now (aim_in self.now.path.now self.now.form) }
     {
         let AimForm::Over(count) = self.form else {
             return false;
         };
+        let Some((first, siblings)) = self.path.split_last() else {
+            return path.is_empty() && count > 0;
+        };
+        let Some((slot, parent)) = path.split_last() else {
+            return false;
+        };
+        if parent != siblings {
+            return false;
+        }
+        if *slot < *first {
+            return false;
+        }
+        *slot - *first < count
+    }
+
+    /// Whether it replaces an element on the way to a path; none if there is no path.
+    pub(crate) fn surrounds(&self, path: Option<&[usize]>) -> bool
+        ensures { result ≡ surrounds (option_map_or (λ p. up_to p.now) path.entry [])
+            (aim_in self.now.path.now self.now.form) }
+    {
         let Some(path) = path else {
             return false;
         };
-        if self.path.is_empty() {
-            return count > 0;
-        }
-        let Some(below) = path.strip_prefix(parent(self.path)) else {
+        let Some(way) = path.get(..self.path.len()) else {
             return false;
         };
-        let [slot, ..] = below else {
-            return false;
-        };
-        let first = last_slot(self.path);
-        if *slot < first {
-            return false;
-        }
-        *slot - first < count
+        self.replaces(way)
     }
 
     /// Whether it replaces some element.
@@ -118,33 +111,10 @@ impl<'a> Aimed<'a> {
     pub fn shares(&self, other: &Aimed<'_>) -> bool
         ensures { result ≡ shares (aim_in self.now.path.now self.now.form) (aim_in other.now.path.now other.now.form) }
     {
-        let AimForm::Over(count) = self.form else {
-            return false;
-        };
-        let AimForm::Over(other_count) = other.form else {
-            return false;
-        };
-        if count == 0 {
-            return false;
+        if self.replaces(other.path) {
+            return other.is_over();
         }
-        if self.path.is_empty() {
-            if !other.path.is_empty() {
-                return false;
-            }
-            return other_count > 0;
-        }
-        if other.path.is_empty() {
-            return false;
-        }
-        if parent(self.path) != parent(other.path) {
-            return false;
-        }
-        share_slot(
-            last_slot(self.path),
-            count,
-            last_slot(other.path),
-            other_count,
-        )
+        self.is_over() && other.replaces(self.path)
     }
 
     // What stands at a depth of the site where it aims.
@@ -209,5 +179,21 @@ impl<'a> Aimed<'a> {
     {
         self.compare_sites(other)
             .then(self.change.cmp(&other.change))
+    }
+}
+
+/// Takes off, from the last on, what surrounds no element on the way to a path; all, if there is no path.
+pub(crate) fn close(regions: &mut Vec<Aimed<'_>>, path: Option<&[usize]>)
+    ensures { Closes (option_map_or (λ p. up_to p.now) path.entry []) (aims_of regions.old.items)
+        (aims_of regions.new.items) }
+{
+    loop {
+        let Some(last) = regions.last() else {
+            return;
+        };
+        if last.surrounds(path) {
+            return;
+        }
+        regions.pop();
     }
 }

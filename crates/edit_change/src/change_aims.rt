@@ -16,7 +16,6 @@ ghost use Rattle.edit_change.specs.inner.AimFrom.{aim_from};
 use crate::aimed::{AimForm, Aimed};
 use crate::change::Change;
 use crate::fits::is_root;
-use crate::parent::parent;
 use cst_core::{GreenElement, GreenElementRef, SyntaxElement, SyntaxNode};
 use std::alloc::{AllocError, Global};
 use std::slice;
@@ -55,7 +54,9 @@ impl Change {
             Change::InsertAll(position, _) => position.aim_form(),
             Change::Replace(_, _) => AimForm::Over(1),
             Change::ReplaceWithMany(_, _) => AimForm::Over(1),
-            Change::ReplaceAll(first, last, _) => AimForm::Over(count_of_range(first, last)),
+            Change::ReplaceAll(first, last, _) => {
+                AimForm::Over(slot_after(last).saturating_sub(first.index()))
+            }
         }
     }
 
@@ -151,25 +152,18 @@ fn one_node(elements: &[SyntaxElement]) -> &SyntaxNode
     }
 }
 
-// How many siblings there are from the first to the last.
-fn count_of_range(first: &SyntaxElement, last: &SyntaxElement) -> usize
-    ensures { result ≡ suc (last_slot (element_of last.now).path) - last_slot (element_of first.now).path }
-{
-    slot_after(last).saturating_sub(first.index())
-}
-
 /// The slot after that of an element. There is a number for it, since no node has more children than a list has items.
 pub fn slot_after(element: &SyntaxElement) -> usize
     ensures { result ≡ suc (last_slot (element_of element.now).path) }
 {
     // For the proof: its path leads to it.
     let _ = element.as_green();
-    if element.slots().is_empty() {
+    let Some((slot, parent)) = element.slots().split_last() else {
         return 1;
-    }
-    match element.top_green().get(parent(element.slots())) {
+    };
+    match element.top_green().get(parent) {
         Some(GreenElementRef::Node(node)) => {
-            let slot = element.index();
+            let slot = *slot;
             prove!(slot < node.children().len());
             slot + 1
         }

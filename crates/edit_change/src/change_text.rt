@@ -10,7 +10,7 @@ ghost use Rattle.edit_change.specs.declared.change_text.Style.TheVariants.{Colou
 
 use crate::change::Change;
 use crate::change_aims::slot_after;
-use crate::parent::parent;
+use crate::fits::parent;
 use crate::position::Position;
 use cst_core::{GreenElement, GreenElementRef, SyntaxElement};
 use std::alloc::{AllocError, Global};

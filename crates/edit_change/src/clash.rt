@@ -9,10 +9,9 @@ ghost use Rattle.edit_change.specs.inner.Aimed.{numbered, aims_of};
 ghost use Rattle.edit_change.specs.inner.Clash.{shares, ClashesBelow};
 ghost use Rattle.edit_change.specs.inner.DocumentOrder.{FitsSome, AreSorted};
 
-use crate::aimed::Aimed;
+use crate::aimed::{Aimed, close};
 use crate::change::Change;
 use crate::change_aims::numbered_aim;
-use crate::open::close;
 use crate::order::{change_in_both, sorted_aims};
 use std::alloc::{AllocError, Global};
 
@@ -42,25 +41,6 @@ fn shares_last(regions: &[Aimed<'_>], aim: &Aimed<'_>) -> bool
         Some(last) => last.shares(aim),
         None => false,
     }
-}
-
-// The least number of a change that shares a target with one before it, where so many changes do. Whether there is one below a
-// number does not change back, so the number is halved in on.
-fn second_of_first(alloc: Global, aims: &[Aimed<'_>], count: usize) -> Result<usize, AllocError>
-    ensures { (cs : List Change) → AreSorted cs (aims_of aims.now) → ClashesBelow cs count true
-        → IfOk result (λ j. (j < count) × ClashesBelow cs j false × ClashesBelow cs (j + 1) true) }
-{
-    let mut low = 0;
-    let mut high = count;
-    while high - low > 1 {
-        let middle = low + (high - low) / 2;
-        if has_clash(alloc, aims, middle)? {
-            high = middle;
-        } else {
-            low = middle;
-        }
-    }
-    Ok(low)
 }
 
 // The least number of a change that shares a target with this one.
@@ -99,7 +79,17 @@ pub fn clash_of(
     if !has_clash(alloc, aims, count)? {
         return Ok(None);
     }
-    let second = second_of_first(alloc, aims, count)?;
+    // Whether two changes below a number clash does not change back, so the second one of the first two is halved in on.
+    let mut second = 0;
+    let mut high = count;
+    while high - second > 1 {
+        let middle = second + (high - second) / 2;
+        if has_clash(alloc, aims, middle)? {
+            high = middle;
+        } else {
+            second = middle;
+        }
+    }
     Ok(Some((first_of_second(own, other, second), second)))
 }
 

@@ -1,17 +1,20 @@
-//! `Fate`: what becomes of a change in a plan.
+//! `Fate`: what becomes of a change in a plan, by the regions of others around it.
 
-ghost use Rattle.std.specs.Prelude.{◌≡◌, ◌<◌, length, map, option_map, None, All, IfOk, IfSome};
+ghost use Rattle.std.specs.Prelude.{◌≡◌, ◌<◌, [], cond, length, map, option_map, None, All, IfOk, IfSome};
+ghost use Rattle.std.specs.Option.{option_map_or};
 ghost use Rattle.cst_core.specs.Element.{Element};
+ghost use Rattle.cst_core.specs.Path.{above, up_to};
+ghost use Rattle.edit_change.specs.Change.{targets};
 ghost use Rattle.edit_change.specs.Fits.{Fits};
-ghost use Rattle.edit_change.specs.Nesting.{first_clash};
+ghost use Rattle.edit_change.specs.Nesting.{first_clash, region, surroundings, is_keeping};
 ghost use Rattle.edit_change.specs.inner.Aimed.{numbered, aims_of};
 ghost use Rattle.edit_change.specs.inner.DocumentOrder.{AreSorted};
-ghost use Rattle.edit_change.specs.inner.Fate.{owner_in, is_dropped_in, is_independent_in, fate};
+ghost use Rattle.edit_change.specs.inner.Fate.{owner_in, is_dropped_in, fate};
 ghost use Rattle.edit_change.specs.inner.Open.{inside_last};
 
-use crate::aimed::Aimed;
+use crate::aimed::{Aimed, close};
 use crate::change::Change;
-use crate::open::close;
+use cst_core::SyntaxElement;
 use std::alloc::{AllocError, Global};
 
 /// What becomes of a change in a plan.
@@ -26,16 +29,6 @@ pub enum Fate {
 }
 
 impl Fate {
-    /// Whether the change is carried out on the tree.
-    pub fn is_independent(self) -> bool
-        ensures { result ≡ is_independent_in self }
-    {
-        match self {
-            Fate::Independent => true,
-            _ => false,
-        }
-    }
-
     /// Whether the change is not carried out.
     pub fn is_dropped(self) -> bool
         ensures { result ≡ is_dropped_in self }
@@ -59,6 +52,56 @@ impl Fate {
     }
 }
 
+// The path of the parent; a root has none.
+fn above(path: &[usize]) -> Option<&[usize]>
+    ensures { option_map_or (λ p. up_to p.now) result [] ≡ above path.now }
+{
+    match path.split_last() {
+        Some((_, parent)) => Some(parent),
+        None => None,
+    }
+}
+
+impl Change {
+    /// Whether what it replaces is a region, of which the insides are taken away or move along. A replaced token alone is none.
+    pub(crate) fn has_region(&self) -> bool
+        ensures { region self.now ≡ cond result (targets self.now) [] }
+    {
+        match self {
+            Change::Insert(_, _) => false,
+            Change::InsertAll(_, _) => false,
+            Change::Replace(SyntaxElement::Node(_), _) => true,
+            Change::Replace(SyntaxElement::Token(_), _) => false,
+            Change::ReplaceWithMany(SyntaxElement::Node(_), _) => true,
+            Change::ReplaceWithMany(SyntaxElement::Token(_), _) => false,
+            Change::ReplaceAll(_, _, _) => true,
+        }
+    }
+
+    /// The innermost element that lies around where the change aims.
+    pub(crate) fn innermost(&self) -> Option<&[usize]>
+        ensures { option_map_or (λ p. up_to p.now) result [] ≡ surroundings self.now }
+    {
+        match self {
+            Change::Insert(position, _) => Some(position.anchor()),
+            Change::InsertAll(position, _) => Some(position.anchor()),
+            Change::Replace(target, _) => above(target.slots()),
+            Change::ReplaceWithMany(target, _) => above(target.slots()),
+            Change::ReplaceAll(first, _, _) => above(first.slots()),
+        }
+    }
+
+    /// Whether what aims into the region moves along with it: a node is replaced by a node.
+    pub(crate) fn is_keeping(&self) -> bool
+        ensures { result ≡ is_keeping self.now }
+    {
+        match self {
+            Change::Replace(SyntaxElement::Node(_), Some(SyntaxElement::Node(_))) => true,
+            _ => false,
+        }
+    }
+}
+
 // The fate of what lies in the region of this aim's change and in no deeper one; in no region, if there is none.
 fn fate_inside(changes: &[Change], fates: &[Fate], region: Option<&Aimed<'_>>) -> Fate
     requires there { IfSome region (λ a. a.now.change < length changes.now) }
@@ -72,10 +115,11 @@ fn fate_inside(changes: &[Change], fates: &[Fate], region: Option<&Aimed<'_>>) -
     if !changes[number].is_keeping() {
         return Fate::Dropped;
     }
-    if fates[number].is_dropped() {
-        return Fate::Dropped;
+    match fates[number] {
+        Fate::Independent => Fate::Owned(number),
+        Fate::Dropped => Fate::Dropped,
+        Fate::Owned(_) => Fate::Owned(number),
     }
-    Fate::Owned(number)
 }
 
 /// What becomes of each change, by its number; no two of them clash. `aims` has where they aim, in document order.

@@ -1,9 +1,9 @@
 //! What an element, a range and the root's replacement must meet to be changed.
 
 ghost use Rattle.std.specs.Prelude.{◌≡◌, [], ◌∷◌};
+ghost use Rattle.cst_core.specs.Path.{parent_path};
 ghost use Rattle.edit_change.specs.Fits.{is_root, have_one_path, are_siblings, is_range, is_one_node};
 
-use crate::parent::parent;
 use cst_core::SyntaxElement;
 
 /// Whether an element is the root of its tree.
@@ -18,6 +18,16 @@ pub(crate) fn have_one_path(first: &SyntaxElement, last: &SyntaxElement) -> bool
     ensures { result ≡ have_one_path first.now last.now }
 {
     first.slots() == last.slots()
+}
+
+// The path of the parent; the empty path at the top.
+pub(crate) fn parent(path: &[usize]) -> &[usize]
+    ensures { result.now ≡ parent_path path.now }
+{
+    match path.split_last() {
+        Some((_, parent)) => parent,
+        None => path,
+    }
 }
 
 fn are_siblings(first: &SyntaxElement, last: &SyntaxElement) -> bool

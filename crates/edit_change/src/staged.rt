@@ -12,22 +12,6 @@ use crate::change_aims::aim_path;
 use crate::fate::Fate;
 use std::alloc::{AllocError, Global};
 
-/// A path at or below a target, exchanged into a payload where that target has this place.
-pub fn moved_path(
-    alloc: Global,
-    target: &[usize],
-    place: &[usize],
-    path: &[usize],
-) -> Result<Vec<usize>, AllocError>
-    ensures { IfOk result (λ v. v.items ≡ moved_path target.now place.now path.now) }
-{
-    let mut moved = Vec::from_slice(alloc, place)?;
-    if let Some(below) = path.get(target.len()..) {
-        moved.extend_from_slice(below)?;
-    }
-    Ok(moved)
-}
-
 /// The owner of a change, if it has one.
 pub fn owner_of(changes: &[Change], fates: &[Fate], number: usize) -> Option<usize>
     requires there { number < length changes.now }
@@ -38,8 +22,8 @@ pub fn owner_of(changes: &[Change], fates: &[Fate], number: usize) -> Option<usi
     fates[number].owner()
 }
 
-/// The place of an owner's target, from a table.
-pub fn place_at(places: &[Option<Vec<usize>>], owner: usize) -> &[usize]
+// The place of an owner's target, from a table.
+fn place_at(places: &[Option<Vec<usize>>], owner: usize) -> &[usize]
     requires { owner < length places.now }
     ensures { result.now ≡ places_in places.now owner }
 {
@@ -65,11 +49,14 @@ pub fn staged_path(
     ensures { IfOk result (λ v. AimsFrom changes.now (places_in places.now) number v.items) }
 {
     let path = aim_path(&changes[number]);
-    match owner {
-        Some(owner) => {
-            let target = aim_path(&changes[owner]);
-            moved_path(alloc, target, place_at(places, owner), path)
-        }
-        None => Vec::from_slice(alloc, path),
+    let Some(owner) = owner else {
+        return Vec::from_slice(alloc, path);
+    };
+    let target = aim_path(&changes[owner]);
+    let place = place_at(places, owner);
+    let mut moved = Vec::from_slice(alloc, place)?;
+    if let Some(below) = path.get(target.len()..) {
+        moved.extend_from_slice(below)?;
     }
+    Ok(moved)
 }

@@ -1,26 +1,26 @@
 -- The way up from an element, among the paths of those above it.
---     above-parent, above-none       those above an element are those on the way to its parent, if it has one
+--     above-parent                   those above an element are those on the way to its parent
 --     parent-of-ok, shorter-parent   the same of an answer
 --     nearest-here, nearest-above    where the lowest of these paths has a copy; where it has none
---     nearest-found, nearest-passed  the same of a look-up
+--     nearest-found                  the same of a look-up
 --     parent-shorter                 a parent is of the same tree, and less deep
 --     none-mapped                    in an empty mapping nothing has a copy
---     passed-to, passed-all          stops that are free have no copy: on the way to one, and where there is none
---     passed-itself                  a node itself
---     passed-on                      past the parent of a stop that has no copy
+--     passed-to, passed-all          where a node has no copy, nor those above it: on the way to one of these, and to the top
+--     passed-itself, passed-on       a node itself; further on the way
 use Rattle.std.specs.Prelude.{◌≡◌, ℕ, zero, suc, ◌+◌, ◌-◌, ◌<◌, ◌≤◌, take, List, [], ◌∷◌, ◌++◌, map, filter_map, length, Option, Some, None, option_map, Result, Ok, Err, IfOk, IfSome, refl}
 use Rattle.std.specs.List.{cons_option}
 use Rattle.std.proofs.Common.{ap, sym, ◌∙◌, append-nil, arith}
 use Rattle.std.specs.Map.{lookup}
+use Rattle.std.proofs.lemmas.Bool.{cases_lt}
 use Rattle.std.proofs.lemmas.List.{map-append, length_push, take_all, length-take-le}
 use Rattle.std.proofs.lemmas.List.Elements.{filter_map-append}
 use Rattle.std.proofs.lemmas.Option.{none-some, same_Some}
+use mathlib.Core.Logic.{inl, inr}
 use Rattle.cst_core.specs.Path.{Path, parent_path, last_slot, above, up_to, last_item}
 use Rattle.cst_core.specs.Element.{Address, Element, address, element_at, parent_of}
 use Rattle.edit_map.specs.Mapping.{Mapping, copy, below_copy}
 use Rattle.edit_map.specs.Following.{step_among}
-use Rattle.edit_map.specs.declared.stops.Stops.{Stops}
-use Rattle.edit_map.specs.inner.Climbing.{in_tree, at_depth, IsFree, HasNoCopy}
+use Rattle.edit_map.specs.inner.Climbing.{in_tree, at_depth, HasNoCopy}
 use Rattle.edit_map.specs.inner.Nearest.{PassesTo, PassesAll}
 use Rattle.edit_map.proofs.Climbs.{child-of-parent}
 use Rattle.edit_map.proofs.Tables.{alike, lookup-copy}
@@ -39,13 +39,6 @@ above-parent e parent is =
       | i ∷ p ↦ λ at is. (
           let same : parent ≡ element_at e (parent_path (i ∷ p)) = same_Some parent (element_at e (parent_path (i ∷ p))) (is ∙ rw at refl) in
           up_to_parent i p ∙ ap (λ (f : Element). up_to f.path) (sym same))
-    ]) refl is
-
-pub above-none : (e : Element) → None ≡ parent_of e → above e.path ≡ []
-above-none e is =
-    (elim e.path as (λ p. e.path ≡ p → None ≡ parent_of e → above p ≡ []) [
-      | [] ↦ λ at is. refl
-      | i ∷ p ↦ λ at is. absurd (none-some (element_at e (parent_path (i ∷ p))) (is ∙ rw at refl))
     ]) refl is
 
 pub parent-of-ok : {E : Type 0} (e : Element) (r : Result (Option Element) E) → IfOk r (λ o. o ≡ parent_of e) → IfOk r (λ o. IfSome o (λ n. above e.path ≡ up_to n.path))
@@ -83,9 +76,6 @@ module _ (m : Mapping) (here e : Element) (number : e.number ≡ here.number) wh
 
   pub nearest-found : (c : Element) (p : Path) → p ≡ here.path → Some c ≡ lookup (alike here) m → step_among m e (up_to here.path) ≡ Some (below_copy e p c)
   nearest-found c p at is = nearest-here m e c here.path (asked ∙ sym is) ∙ ap (λ q. Some (below_copy e q c)) (sym at)
-
-  pub nearest-passed : None ≡ lookup (alike here) m → step_among m e (up_to here.path) ≡ step_among m e (above here.path)
-  nearest-passed is = nearest-above m e here.path (asked ∙ sym is)
 
 pub parent-shorter : (e parent : Element) → Some parent ≡ parent_of e → (parent.number ≡ e.number) × (length parent.path < length e.path)
 parent-shorter e parent is =
@@ -129,28 +119,31 @@ module _ (m : Mapping) (e : Element) (p : Path) where
   skipped-all : ((k : ℕ) → k < length p + 1 → passes k) → step_among m e (up_to p) ≡ None
   skipped-all free = skipped-to 0 (omega arith) (λ k more less. free k less) ∙ nearest-above m e [] (free 0 (omega arith))
 
-module _ (m : Mapping) (stops : Stops) (node : Element) (free : (x : Address) → IsFree stops x → HasNoCopy m x) where
-  no-copy : (e : Element) → e.number ≡ node.number → (k : ℕ) → IsFree stops (at_depth (address node) k) → HasNoCopy m (in_tree e.number (take k node.path))
-  no-copy e number k is = rw number (free (at_depth (address node) k) is)
+-- a node that has no copy
+module _ (m : Mapping) (node : Element) (none : None ≡ lookup (alike node) m) where
+  has-none : (e : Element) → e.number ≡ node.number → (k : ℕ) → k < length node.path + 1 → (k < length node.path → HasNoCopy m (at_depth (address node) k)) → HasNoCopy m (in_tree e.number (take k node.path))
+  has-none e number k less free =
+      rw number (elim (cases_lt k (length node.path)) [
+        | inl above ↦ free above
+        | inr here ↦ ap (λ p. copy m (in_tree node.number p)) (take_all k node.path here) ∙ sym (lookup-copy m node) ∙ sym none
+      ])
 
-  pub passed-all : ((k : ℕ) → k < length node.path + 1 → IsFree stops (at_depth (address node) k)) → PassesAll m node
-  passed-all none = λ e number. skipped-all m e node.path (λ k less. no-copy e number k (none k less))
+  pub passed-all : ((k : ℕ) → k < length node.path → HasNoCopy m (at_depth (address node) k)) → PassesAll m node
+  passed-all free = λ e number. skipped-all m e node.path (λ k less. has-none e number k less (free k))
 
-  pub passed-to : (d : ℕ) → d < length node.path + 1 → ((k : ℕ) → d < k → k < length node.path + 1 → IsFree stops (at_depth (address node) k)) → PassesTo m node (element_at node (take d node.path))
-  passed-to d within rest = record {
+  pub passed-to : (d : ℕ) → d < length node.path → ((k : ℕ) → d < k → k < length node.path → HasNoCopy m (at_depth (address node) k)) → PassesTo m node (element_at node (take d node.path))
+  passed-to d within free = record {
     number = refl;
     short = rw (length-take-le d node.path (omega (arith, within))) (omega (arith, within));
-    same = λ e number. skipped-to m e node.path d (omega (arith, within)) (λ k more less. no-copy e number k (rest k more less));
+    same = λ e number. skipped-to m e node.path d (omega (arith, within)) (λ k more less. has-none e number k less (free k more));
   }
 
 pub passed-itself : (m : Mapping) (node : Element) → PassesTo m node node
 passed-itself m node = record { number = refl; short = omega arith; same = λ e number. refl }
 
-pub passed-on : (m : Mapping) (node here stop parent : Element) → PassesTo m node here → PassesTo m here stop → None ≡ lookup (alike stop) m → Some parent ≡ parent_of stop → PassesTo m node parent
-passed-on m node here stop parent passed further none is =
-    let shorter = parent-shorter stop parent is in
-    record {
-      number = shorter.0 ∙ further.number ∙ passed.number;
-      short = omega (arith, shorter.1, further.short, passed.short);
-      same = λ e number. passed.same e number ∙ further.same e (number ∙ sym passed.number) ∙ nearest-passed m stop e (number ∙ sym (further.number ∙ passed.number)) none ∙ ap (step_among m e) (above-parent stop parent is);
-    }
+pub passed-on : (m : Mapping) (node here next : Element) → PassesTo m node here → PassesTo m here next → PassesTo m node next
+passed-on m node here next passed further = record {
+  number = further.number ∙ passed.number;
+  short = omega (arith, further.short, passed.short);
+  same = λ e number. passed.same e number ∙ further.same e (number ∙ sym passed.number);
+}

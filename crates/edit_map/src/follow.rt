@@ -39,9 +39,11 @@ impl SyntaxMapping {
         ensures followed { IfOk result (LeadsTo self.now element.now) }
         ensures is_mapping { IsMapping self.now }
     {
-        // For the proof: what is true of every mapping, and that the element is one of its tree.
+        // For the proof: what is true of every mapping.
         let _ = &self.copies;
+        // For the proof: the element is one of its tree.
         let _ = element.kind();
+        // For the proof: its path leads to it.
         let _ = element.as_green();
         let mut here = element.try_clone(alloc)?;
         'steps: while let Some(next) = self.step(alloc, &here)? {
@@ -71,7 +73,7 @@ impl SyntaxMapping {
     }
 
     // The copy of the nearest mapped one of a node and those above it, and how many slots lead to that one. A stop has a copy, but
-    // for some after a refused call; so mostly one node is looked up.
+    // for some after a refused call, so mostly two nodes are looked up.
     fn nearest_copy(
         &self,
         alloc: Global,
@@ -82,17 +84,14 @@ impl SyntaxMapping {
     {
         let mut here = node;
         'up: loop {
-            let Some(depth) = self.stops.nearest(&here) else {
-                return Ok(None);
-            };
-            let stop = node_above(alloc, &here, depth)?;
-            if let Some(copy) = self.copies.get(&stop) {
-                return Ok(Some((copy, stop.slots().len())));
+            if let Some(copy) = self.copies.get(&here) {
+                return Ok(Some((copy, here.slots().len())));
             }
-            let Some(parent) = stop.parent(alloc)? else {
+            // No node above this one is this one, so only copies count.
+            let Some(depth) = self.stops.above(&here, &here) else {
                 return Ok(None);
             };
-            here = parent;
+            here = node_above(alloc, &here, depth)?;
         }
     }
 }

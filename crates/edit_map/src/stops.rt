@@ -3,7 +3,7 @@
 ghost use Rattle.std.specs.Prelude.{◌≡◌, ◌≢◌, ◌≤◌, ◌<◌, ◌++◌, length, take, reverse, false, IfOk, OnOk};
 ghost use Rattle.cst_core.specs.Element.{Address, address, element_at};
 ghost use Rattle.path_table.specs.inner.PathTable.{IsTree};
-ghost use Rattle.edit_map.specs.inner.Climbing.{IsFree, at_depth, IsNearestStop, IsStopAbove, StopsAll};
+ghost use Rattle.edit_map.specs.inner.Climbing.{IsFree, at_depth, IsStopAbove, StopsAll};
 
 use cst_core::{SyntaxElement, SyntaxNode};
 use path_table::PathTable;
@@ -92,26 +92,6 @@ impl Stops {
             self.insert(alloc, input)?;
         }
         Ok(())
-    }
-
-    /// How many slots lead to the nearest node that may have a copy, among this one and those above it; `None` where there is none.
-    /// Each slot on the way is looked at once.
-    pub(crate) fn nearest(&self, node: &SyntaxNode) -> Option<usize>
-        ensures { IsNearestStop self.now node.now result }
-    {
-        let mut stop = None;
-        let mut cell = self.cells.below(self.cells.top(), node.tree() as usize);
-        for (depth, slot) in node.slots().iter().enumerate() {
-            if self.cells.number(cell).is_some() {
-                stop = Some(depth);
-            }
-            cell = self.cells.below(cell, *slot);
-        }
-        if self.cells.number(cell).is_some() {
-            Some(node.slots().len())
-        } else {
-            stop
-        }
     }
 
     /// How many slots lead to the nearest node above this one that may have a copy or be the payload; `None` where there is none.

@@ -1,4 +1,5 @@
-//! The elements of the new tree that paths lead to, and `AnnotatedElements`, in which those of an annotation are found.
+//! The annotated paths of the new tree, the elements of it that paths lead to, and `AnnotatedElements`, in which those of an annotation
+//! are found.
 
 ghost use Rattle.std.specs.Prelude.{◌≡◌, map, All, Some, IfOk};
 ghost use Rattle.cst_core.specs.Element.{IsElement, element_at};
@@ -6,12 +7,45 @@ ghost use Rattle.cst_core.specs.SyntaxElement.{syntax_at};
 ghost use Rattle.edit_change.specs.Topmost.{paths_of};
 ghost use Rattle.edit_plan.specs.Plan.{found_for};
 ghost use Rattle.edit_plan.specs.Engine.{annotated_path};
-ghost use Rattle.edit_plan.specs.inner.Annotating.{LeadByAnnotation};
+ghost use Rattle.edit_plan.specs.inner.Annotating.{AreNumbered, TellOf, AreFollowed, LeadByAnnotation};
 
 use crate::annotation::SyntaxAnnotation;
 use cst_core::{SyntaxElement, SyntaxNode};
+use edit_map::SyntaxMapping;
 use std::alloc::{AllocError, Global};
 use std::marker::Model;
+
+/// Where each registered element is followed to.
+pub(crate) fn registered_copies(
+    alloc: Global,
+    mapping: &SyntaxMapping,
+    registrations: &[(SyntaxElement, SyntaxAnnotation)],
+) -> Result<Vec<SyntaxElement>, AllocError>
+    ensures { TellOf mapping.now registrations.now → IfOk result (AreFollowed mapping.now registrations.now) }
+{
+    let mut reached = Vec::with_capacity(alloc, registrations.len())?;
+    for registration in registrations {
+        reached.push(mapping.follow(alloc, &registration.0)?)?;
+    }
+    Ok(reached)
+}
+
+/// Each registration's annotation with each path of a list for it, by registration. Takes time linear in the paths, which are moved.
+pub(crate) fn annotated_paths(
+    alloc: Global,
+    registrations: &[(SyntaxElement, SyntaxAnnotation)],
+    copies: Vec<Vec<Vec<usize>>>,
+) -> Result<Vec<(SyntaxAnnotation, Vec<usize>)>, AllocError>
+    ensures { IfOk result (AreNumbered (map (λ r. r.1) registrations.now) copies.items) }
+{
+    let mut found = Vec::with_capacity(alloc, copies.len())?;
+    for (registration, paths) in registrations.iter().zip(copies) {
+        for path in paths {
+            found.push((registration.1, path))?;
+        }
+    }
+    Ok(found)
+}
 
 /// The elements that these paths lead to, counted from a root. A path that leads to none is left out.
 pub(crate) fn elements_at(

@@ -116,7 +116,8 @@ pub fn text_edits_make_the_new_text()
 
 /// Where the text of one of a plan's text edits has an element of the new tree, by its cursor, it has the text of that element.
 pub fn cursors_show_their_elements()
-    ensures { (plan : Plan) (number : ℕ) (edit : Edit) (edits : List TextEdit) (p : Path) (x : SyntaxElement) (c : Cursor)
+    ensures { (plan : Plan) (number : ℕ) (edit : Edit) (edits : List TextEdit)
+        (p : Path) (x : SyntaxElement) (c : Cursor)
         → IsPlan plan → Makes plan number edit → AreTextEdits plan edits → syntax_at edit.new_root p ≡ Some x
         → (element_cursor (map as_piece edits) x).in_edit ≡ Some c
         → slice_range (piece_at (map as_piece edits) c.edit).text c.start c.end ≡ text (subtree (element_of x)) }

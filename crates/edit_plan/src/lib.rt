@@ -1,7 +1,6 @@
 //! Plans of changes: what is found out of a list of changes, the engines that carry it out, and the edit that comes of it.
 #![tactic(auto)]
 
-mod annotated;
 mod annotation;
 mod cursor;
 mod edit;
@@ -19,7 +18,6 @@ mod places;
 mod plan;
 mod plan_stages;
 mod plan_text;
-mod prepared;
 mod rewritten;
 mod run;
 mod splice_engine;

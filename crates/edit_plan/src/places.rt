@@ -13,7 +13,7 @@ ghost use Rattle.edit_change.specs.declared.change.Change.{Change};
 
 use crate::edit_error::EditError;
 use cst_core::SyntaxElement;
-use edit_change::{Change, Fate, aim_path, owner_of};
+use edit_change::{Change, Fate, aim_path};
 use edit_map::SyntaxMapping;
 use edit_map::laws::place_is_unique;
 use std::alloc::{AllocError, Global};
@@ -86,7 +86,7 @@ pub(crate) fn places(
 {
     let mut places = vec![in alloc; None; changes.len()]?;
     for number in 0..changes.len() {
-        if let Some(owner) = owner_of(changes, fates, number) {
+        if let Fate::Owned(owner) = fates[number] {
             find_place(alloc, mapping, changes, owner, &mut places)?;
             if !has_place(&changes[number], &changes[owner], &places[owner]) {
                 return Err(EditError::MissingMapping {

@@ -1,19 +1,64 @@
-//! `EditPlan`: a root, changes, registrations and a mapping, with what is found out when it is built.
+//! `EditPlan`: a root, changes, registrations and a mapping, with what is tested and found out before it is built.
 
 ghost use Rattle.std.specs.Prelude.{◌≡◌, ◌==◌, ◌<◌, [], length, slice_get, option_and_then, false, All, IfOk, IfErr, OnOk};
 ghost use Rattle.std.specs.Option.{option_map_or};
 ghost use Rattle.edit_change.specs.Fits.{Fits};
 ghost use Rattle.edit_change.specs.Nesting.{is_dropped, owner};
 ghost use Rattle.edit_plan.specs.Plan.{Plan, IsPlan, BuildRefuses, new_plan};
+ghost use Rattle.edit_plan.specs.inner.PlanRun.{IsPlanned, unregistered};
 
 use crate::annotation::SyntaxAnnotation;
 use crate::edit_error::EditError;
-use crate::prepared::{Prepared, prepare};
+use crate::places::places;
 use cst_core::{SyntaxElement, SyntaxNode};
-use edit_change::{Change, Fate};
+use edit_change::{Change, Fate, clash_of, fates, numbers, sorted_aims};
 use edit_map::SyntaxMapping;
 use std::alloc::Global;
 use std::marker::Model;
+
+// What is looked up for a plan of changes.
+#[derive(Drop)]
+struct Prepared {
+    // The numbers of the changes, in document order.
+    order: Vec<usize>,
+    // What becomes of each change.
+    fates: Vec<Fate>,
+    // The place of each owner's target in its payload.
+    places: Vec<Option<Vec<usize>>>,
+}
+
+// Tests what a plan of these changes of the tree with this root is refused for, and looks up what it keeps. All three are
+// borrowed, and nothing of them is copied.
+//
+// `Intersecting` comes first, then `MissingMapping`; `Memory` may come at any time.
+fn prepare(
+    alloc: Global,
+    root: &SyntaxNode,
+    changes: &[Change],
+    mapping: &SyntaxMapping,
+) -> Result<Prepared, EditError>
+    requires is_root { root.now.path ≡ [] }
+    requires fit { All (Fits root.now) changes.now }
+    ensures planned { let plan = unregistered root.now changes.now mapping.now in
+        IfOk result (λ x. IsPlanned plan x.order.items x.fates.items x.places.items) }
+    ensures refused { IfErr result (BuildRefuses (unregistered root.now changes.now mapping.now)) }
+{
+    // For the proof: what is true of every node.
+    let _ = root.kind();
+    // For the proof: what is true of every mapping.
+    let _ = mapping.len();
+    let aims = sorted_aims(alloc, &[], changes)?;
+    if let Some((first, second)) = clash_of(alloc, &aims, &[], changes)? {
+        return Err(EditError::Intersecting { first, second });
+    }
+    let fates = fates(alloc, &aims, changes)?;
+    let places = places(alloc, changes, &fates, mapping)?;
+    Ok(Prepared {
+        order: numbers(alloc, &aims)?,
+        fates,
+        places,
+    })
+}
 
 /// The changes of a tree, looked through and ready to be carried out.
 #[derive(Drop)]

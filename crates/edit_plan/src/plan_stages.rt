@@ -55,7 +55,9 @@ impl EditPlan {
         ensures refused_list { OnErr result (done_in stages.new ≡ done_in stages.old) }
         ensures refused_count { OnErr result (builds_of stages.new ≡ builds_of stages.old) }
     {
+        // For the proof: any two tables of places agree.
         self.agree_on_places();
+        // For the proof: a target keeps its shape.
         self.keep_shapes();
         let owner = owner_of(&self.changes, &self.fates, change);
         let path = staged_path(alloc, &self.changes, &self.places, change, owner)?;

@@ -11,12 +11,11 @@ ghost use Rattle.text_edit.specs.declared.text_edit.TextEdit.{TextEdit};
 ghost use Rattle.edit_plan.specs.PlanTextEdits.{AreTextEdits};
 ghost use Rattle.edit_plan.specs.inner.PlanRun.{IsOfRoot, IsPlanned};
 
-use crate::annotated::{annotated_paths, registered_copies};
 use crate::edit::SyntaxEdit;
 use crate::edit_error::EditError;
 use crate::engine::EditEngine;
 use crate::engine_error::EngineError;
-use crate::found::{AnnotatedElements, elements_at};
+use crate::found::{AnnotatedElements, annotated_paths, elements_at, registered_copies};
 use crate::plan::EditPlan;
 use crate::rewritten::Rewritten;
 use cst_core::{LENGTH_LIMIT, SyntaxNode, TreeIds};
@@ -113,6 +112,7 @@ impl EditPlan {
             (λ v. (edits : List TextEdit) → pieces edits ≡ v → AreTextEdits self.now edits) }
         ensures apart { IfOk result (λ v. AreApart 0 v (length (text (subtree self.now.root)))) }
     {
+        // For the proof: any two tables of places agree.
         self.agree_on_places();
         let edits = text_edits(alloc, self.planned())?;
         Ok(one_list(edits, self.root.text_len()))
@@ -142,6 +142,7 @@ impl EditPlan {
         ensures made { IfOk result (HasRewritten self.now) }
         ensures count { OnOk result (CountsTouched self.now builds.old builds.new) }
     {
+        // For the proof: a target keeps its shape.
         self.keep_shapes();
         let registered = registered_copies(alloc, &self.mapping, &self.registrations)?;
         let OnePass {

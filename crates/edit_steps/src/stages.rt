@@ -196,8 +196,9 @@ impl Stages {
     {
         if change.replaces_root() {
             // Nothing of the old tree changes, so no node is built.
-            // For the proof: it brings one node, and the count at the start.
+            // For the proof: it brings one node.
             let _ = node_for_root(change);
+            // For the proof: the count at the start.
             let _builds = self.builds;
             self.new_root = Some(only_node(given));
             return Ok(());

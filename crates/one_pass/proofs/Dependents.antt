@@ -17,8 +17,9 @@ use Rattle.cst_core.specs.Path.{Path, first_item}
 use Rattle.cst_core.specs.Tree as tree
 use Rattle.cst_core.specs.declared.element.SyntaxElement.TheVariants.{Token}
 use Rattle.edit_change.specs.Rewriting.{NumberedAim}
-use Rattle.edit_change.specs.ChangeAim.{aim, aim_path}
-use Rattle.edit_change.specs.Nesting.{is_keeping, owner, has_owner}
+use Rattle.edit_change.specs.ChangeAim.{aim}
+use Rattle.edit_change.specs.Nesting.{owner, has_owner}
+use Rattle.edit_change.specs.StagedChange.{staged_aim}
 use Rattle.one_pass.specs.inner.OwnerTables.{moved_dependent, dependents_in}
 use Rattle.edit_change.specs.NewTree.{moved_aim, targets_of, dependents}
 use Rattle.edit_change.specs.declared.change.Change.{Change}
@@ -26,7 +27,6 @@ use Rattle.one_pass.specs.declared.dependent.Dependent.{Dependent}
 use Rattle.edit_change.specs.declared.change.Change.TheVariants.{ReplaceWithMany}
 use Rattle.edit_change.proofs.Independents.{enumerate-push, take-whole}
 use Rattle.edit_change.proofs.Lists.{slice_get-set_same, slice_get-set_other}
-use Rattle.edit_change.proofs.OwnersKeep.{owner-keeps, target-is}
 
 -- ---- tables of what is owned
 pub entered-here : (table : List (Vec Dependent Global)) (o : ℕ) (v w : Vec Dependent Global) (d : Dependent) → o < length table → v ≡ get_or table o v → w.items ≡ v.items ++ d ∷ [] → dependents_in (set table o w) o ≡ dependents_in table o ++ moved_dependent d ∷ []
@@ -64,8 +64,8 @@ module _ (cs : List Change) (places : ℕ → Path) where
     pub none-entered : owner cs d ≡ None → (table : List (Vec Dependent Global)) → ((c : ℕ) → dependents_in table c ≡ dependents-to i c) → (c : ℕ) → dependents_in table c ≡ dependents-to (i + 1) c
     none-entered none table before c = before c ∙ sym (not-more c (ap (λ o. option_map_or (nat_eq c) o false) none))
 
-    pub one-entered : (o : ℕ) (r : Change) (x : Dependent) (table after : List (Vec Dependent Global)) → owner cs d ≡ Some o → slice_get cs o ≡ Some r → moved_dependent x ≡ (i, moved_aim (aim_path r) (places o) (aim d)) → dependents_in after o ≡ dependents_in table o ++ moved_dependent x ∷ [] → ((c : ℕ) → c ≢ o → dependents_in after c ≡ dependents_in table c) → ((c : ℕ) → dependents_in table c ≡ dependents-to i c) → (c : ℕ) → dependents_in after c ≡ dependents-to (i + 1) c
-    one-entered o r x table after by at_o moves here elsewhere before c =
+    pub one-entered : (o : ℕ) (x : Dependent) (table after : List (Vec Dependent Global)) → owner cs d ≡ Some o → moved_dependent x ≡ (i, staged_aim cs places d) → dependents_in after o ≡ dependents_in table o ++ moved_dependent x ∷ [] → ((c : ℕ) → c ≢ o → dependents_in after c ≡ dependents_in table c) → ((c : ℕ) → dependents_in table c ≡ dependents-to i c) → (c : ℕ) → dependents_in after c ≡ dependents-to (i + 1) c
+    one-entered o x table after by moves here elsewhere before c =
         elim (cases_Bool (nat_eq c o)) [
           | inl same ↦ let is_o : c ≡ o = eqb-true c o same in subst (λ n. dependents_in after n ≡ dependents-to (i + 1) n) (sym is_o) at_owner
           | inr other ↦
@@ -76,12 +76,9 @@ module _ (cs : List Change) (places : ℕ → Path) where
         owns : has_owner cs o d ≡ true
         owns = ap (λ p. option_map_or (nat_eq o) p false) by ∙ eq-eqb o o refl
 
-        keeps : is_keeping r ≡ true
-        keeps = let k : (s : Change) × (slice_get cs o ≡ Some s) × (is_keeping s ≡ true) = owner-keeps cs d o by in ap is_keeping (same_Some r k.0 (sym at_o ∙ k.1)) ∙ k.2
-
         at_owner : dependents_in after o ≡ dependents-to (i + 1) o
         at_owner =
-            here ∙ ap₂ (λ xs y. xs ++ y ∷ []) (before o) (moves ∙ ap (λ n. (i, moved_aim n (places o) (aim d))) (sym (target-is cs o r at_o keeps))) ∙ sym (one-further o ∙ ap (λ b. dependents-to i o ++ cond b (entry o (i, d) ∷ []) []) owns)
+            here ∙ ap₂ (λ xs y. xs ++ y ∷ []) (before o) (moves ∙ ap (λ w. (i, option_map_or (λ e. moved_aim (unwrap_or (first_item (targets_of cs e)) []) (places e) (aim d)) w (aim d))) by) ∙ sym (one-further o ∙ ap (λ b. dependents-to i o ++ cond b (entry o (i, d) ∷ []) []) owns)
 
 pub none-at : (cs : List Change) (places : ℕ → Path) (n : ℕ) (table : List (Vec Dependent Global)) → n < length cs → option_and_then (owner cs) (slice_get cs n) ≡ None → ((c : ℕ) → dependents_in table c ≡ dependents-to cs places n c) → (c : ℕ) → dependents_in table c ≡ dependents-to cs places (n + 1) c
 none-at cs places n table l none before = go (slice_get cs n) refl

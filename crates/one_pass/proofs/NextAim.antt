@@ -24,7 +24,7 @@ use Rattle.edit_change.specs.inner.Aimed.{FormedAim, of_formed}
 use Rattle.edit_change.specs.inner.KindOnly.{kind_only}
 use Rattle.one_pass.specs.declared.marked_element.GivenTable.{GivenTable}
 use Rattle.one_pass.specs.declared.open_node.OpenNode.{OpenNode}
-use Rattle.one_pass.specs.declared.walk.Walk.{Walk}
+use Rattle.one_pass.specs.declared.mark.Walk.{Walk}
 use Rattle.one_pass.specs.inner.Marked.{Marking, sought_below, wanted, InPathOrder, FromChild}
 use Rattle.one_pass.specs.inner.Sweep.{lowered, seen_at, covered, from_slot, inside_child, in_slot, From, Rising, key, IsGap, IsRun, IsBelow, PassesAll}
 use Rattle.one_pass.specs.inner.OpenNodes.{coming, sought_in, child_built, nothing, InOrder, IsSameNode, IsShared, IsFurther, PutsNext, IsPassed, IsToOpen, IsNext}

@@ -13,7 +13,7 @@ use Rattle.edit_change.specs.declared.aimed.Aimed.{Aimed}
 use Rattle.edit_change.specs.inner.KindOnly.{kind_only}
 use Rattle.one_pass.specs.declared.marked_element.GivenTable.{GivenTable}
 use Rattle.one_pass.specs.declared.open_node.OpenNode.{OpenNode}
-use Rattle.one_pass.specs.declared.walk.Walk.{Walk}
+use Rattle.one_pass.specs.declared.mark.Walk.{Walk}
 use Rattle.one_pass.specs.inner.Marked.{MarkTree, marks_of, wanted, InPathOrder, FromChild}
 use Rattle.one_pass.specs.inner.Pass.{given_in}
 use Rattle.one_pass.specs.inner.Sweep.{lowered, seen_at, From, Rising, key}

@@ -8,7 +8,7 @@ use Rattle.std.proofs.Common.{ap, ap₂, sym, ◌∙◌, arith}
 use Rattle.std.proofs.lemmas.List.{append_assoc, map-append, at_drop_more}
 use Rattle.green_tree.specs.Path.{Path}
 use Rattle.one_pass.specs.declared.open_node.OpenNode.{OpenNode}
-use Rattle.one_pass.specs.declared.walk.Walk.{Walk}
+use Rattle.one_pass.specs.declared.mark.Walk.{Walk}
 use Rattle.one_pass.specs.inner.Marked.{MarkTree, Marking, mark_below, marks_seen}
 use Rattle.one_pass.specs.inner.Sweep.{seen_at}
 use Rattle.one_pass.specs.inner.OpenNodes.{coming, sought_in, IsSameNode, IsShared}

@@ -22,7 +22,7 @@ use Rattle.edit_change.specs.inner.Aimed.{FormedAim, formed, of_formed, aims_of,
 use Rattle.edit_change.specs.inner.KindOnly.{kind_only}
 use Rattle.one_pass.specs.declared.marked_element.GivenTable.{GivenTable}
 use Rattle.one_pass.specs.declared.open_node.OpenNode.{OpenNode}
-use Rattle.one_pass.specs.declared.walk.Walk.{Walk}
+use Rattle.one_pass.specs.declared.mark.Walk.{Walk}
 use Rattle.one_pass.specs.inner.Built.{built_from, nodes_built}
 use Rattle.one_pass.specs.inner.Marked.{MarkTree, Marking, marked, mark_below, marks_of, marks_seen, marks_at, sought_below, wanted, InPathOrder, FromChild}
 use Rattle.one_pass.specs.inner.Pass.{given_in}

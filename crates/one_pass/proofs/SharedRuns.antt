@@ -26,7 +26,7 @@ use Rattle.edit_change.specs.inner.Aimed.{FormedAim, of_formed}
 use Rattle.edit_change.specs.inner.KindOnly.{kind_only}
 use Rattle.edit_change.proofs.Untouched.{unaimed, nothing_rewritten}
 use Rattle.one_pass.specs.declared.open_node.OpenNode.{OpenNode}
-use Rattle.one_pass.specs.declared.walk.Walk.{Walk}
+use Rattle.one_pass.specs.declared.mark.Walk.{Walk}
 use Rattle.one_pass.specs.declared.mark.Sought.{Sought}
 use Rattle.one_pass.specs.inner.Marked.{MarkTree, Marking, marked_from, mark_below, marks_of, mark_seen, marks_seen, leads, seen_below, sought_below, wanted, is_before_child, InPathOrder, BeforeChild, FromChild}
 use Rattle.one_pass.specs.inner.Sweep.{left, From}

@@ -15,14 +15,13 @@ ghost use Rattle.one_pass.specs.inner.GivenTables.{CountsElement, CountsEach, Co
 ghost use Rattle.one_pass.specs.inner.Sought.{AreInOrder};
 ghost use Rattle.one_pass.specs.inner.OwnerTables.{moved_dependent};
 
-use crate::dependent::{Dependent, moved_aims};
-use crate::lists::empty_lists;
+use crate::dependent::Dependent;
+use crate::mark::{Walk, empty_lists};
 use crate::marked_element::{GivenTable, MarkedElement};
-use crate::pass::rewrite_element;
+use crate::open_nodes::rewrite_element;
 use crate::sought::{Registered, sought_at};
-use crate::walk::Walk;
 use cst_core::{GreenElement, SyntaxElement};
-use edit_change::{Aimed, Change};
+use edit_change::{Aimed, Change, numbered_aim_from};
 use std::alloc::{AllocError, Global};
 
 /// An element, rewritten, where the walk is at it.
@@ -58,13 +57,18 @@ fn given_by(
     ensures count { OnOk result
         (CountsEach (map moved_dependent dependents.now) (payload change.now) builds.old builds.new) }
     ensures trees { IfOk result
-        (λ v. given_trees v.items ≡ each_rewritten given.now (map moved_dependent dependents.now) (payload change.now)) }
+        (λ v. given_trees v.items
+        ≡ each_rewritten given.now (map moved_dependent dependents.now) (payload change.now)) }
     ensures marks { IfOk result
-        (λ v. AreMarkedEach given.now registered.now (map moved_dependent dependents.now) (payload change.now) v.items) }
+        (λ v. AreMarkedEach given.now registered.now
+        (map moved_dependent dependents.now) (payload change.now) v.items) }
 {
     // For the proof: the count at the start.
     let _count = *builds;
-    let aims = moved_aims(alloc, dependents)?;
+    let mut aims = Vec::with_capacity(alloc, dependents.len())?;
+    for it in dependents {
+        aims.push(numbered_aim_from(it.change, it.number, &it.path))?;
+    }
     let elements = change.payload();
     let mut entry = Vec::with_capacity(alloc, elements.len())?;
     for element in elements {

@@ -1,24 +1,24 @@
-//! Nodes that are made anew, each inside the one before it.
+//! The new tree of an element, and the nodes that are made anew for it, each inside the one before it.
 
 ghost use Rattle.std.specs.Prelude.{◌≡◌, ◌≤◌, ◌<◌, ◌+◌, ◌∷◌, [], ◌++◌, suc, length, IfOk, OnOk, MatchOption};
 ghost use Rattle.green_tree.specs.Tree.{node};
 ghost use Rattle.green_tree.specs.GreenElement.{element_tree, element_trees};
 ghost use Rattle.green_tree.specs.Count.{counted};
 ghost use Rattle.one_pass.specs.inner.Marked.{mark_seen, marks_seen, InPathOrder};
+ghost use Rattle.one_pass.specs.inner.Pass.{TouchesAtMost, CountsBuilt, CountsTouched};
+ghost use Rattle.one_pass.specs.inner.Pass.{green_rewritten, FindsRewritten};
 ghost use Rattle.one_pass.specs.inner.Sweep.{seen_at, From};
 ghost use Rattle.one_pass.specs.inner.OpenNodes.{InOrder, IsNodeOpened, IsFurther, IsShared, PutsNext, IsPassed, IsToOpen, IsLeft, IsEnded, IsNext};
 ghost use Rattle.one_pass.specs.inner.OpenNodes.{FindsShared, Enters, PutsMade, FindsWholeNode, to_build, whole};
 
-use crate::kept::leads;
-use crate::mark::{Sought, marks_before, push_mark};
-use crate::marked_element::GivenTable;
+use crate::mark::{Sought, Walk, marks_before, path_from, push_kept, push_mark};
+use crate::marked_element::{GivenTable, push_change};
 use crate::open_node::OpenNode;
-use crate::pushes::push_change;
-use crate::site::{Site, one_deeper, run_inside, site_of};
-use crate::walk::Walk;
+use crate::site::{Site, in_order, one_deeper, run_inside, site_of};
 use edit_change::Aimed;
 use green_tree::{GreenElement, GreenNode, SyntaxKind, share_all};
 use std::alloc::{AllocError, Global};
+use std::slice;
 
 // Nodes are made here alone, and counted. At the greatest number the count stays.
 fn build_node(
@@ -46,7 +46,8 @@ pub fn open_node<'e, 'a, 's, 'm>(
     requires { InPathOrder (marks_seen depth sought.now) }
     ensures path { OnOk result (walk.new.path.items ≡ walk.old.path.items) }
     ensures count { OnOk result (walk.new.builds ≡ walk.old.builds) }
-    ensures opened { IfOk result (IsNodeOpened node.now depth aims.now (marks_seen depth sought.now) walk.old walk.new) }
+    ensures opened { IfOk result
+        (IsNodeOpened node.now depth aims.now (marks_seen depth sought.now) walk.old walk.new) }
 {
     let here = marks_before(sought, depth, 0);
     for mark in &sought[..here] {
@@ -78,7 +79,7 @@ fn push_shared(
     ensures count { OnOk result (walk.new.builds ≡ walk.old.builds) }
     ensures marks { OnOk result (FindsShared walk.old walk.new top.now first (mark_seen top.now.depth mark.now)) }
 {
-    let [slot, below @ ..] = mark.path_from(top.depth) else {
+    let [slot, ..] = path_from(mark.path, top.depth) else {
         return Ok(());
     };
     if *slot < first {
@@ -87,11 +88,16 @@ fn push_shared(
     let Some(child) = top.elements.get(*slot) else {
         return Ok(());
     };
-    if !leads(child, below) {
-        return Ok(());
-    }
     walk.path.push(top.out.len() + (*slot - first))?;
-    push_mark(alloc, &mut walk.found, mark.number, &walk.path, below)?;
+    let here = slice::from_ref(mark);
+    push_kept(
+        alloc,
+        &mut walk.found,
+        &walk.path,
+        child,
+        top.depth + 1,
+        here,
+    )?;
     walk.path.pop();
     Ok(())
 }
@@ -288,4 +294,43 @@ pub fn rewrite_open(
         top = next;
         push_made(walk, &mut top, made)?;
     }
+}
+
+/// The element made anew by changes whose aims are counted from it: `given` has what each change gives, by its number.
+/// The marks of the new element go to the end of those that the walk has found, in document order, with paths that
+/// begin with the walk's: `sought` has those of the old element, in document order too.
+///
+/// Only the nodes above an aim are built, and what no aim is in or below is shared; the walk counts the nodes, exactly,
+/// up to its greatest number. An aim over the top itself is passed over. Takes time linear in the
+/// aims times their depth, the children of the nodes that are built, the children that are replaced, and the lengths of
+/// the marks' paths.
+pub fn rewrite_element(
+    alloc: Global,
+    walk: &mut Walk,
+    element: &GreenElement,
+    aims: &[Aimed],
+    sought: &[Sought],
+    given: &GivenTable,
+) -> Result<GreenElement, AllocError>
+    requires { InPathOrder (marks_seen 0 sought.now) }
+    ensures path { OnOk result (walk.new.path.items ≡ walk.old.path.items) }
+    ensures builds { OnOk result (TouchesAtMost aims.now element.now walk.old.builds walk.new.builds) }
+    ensures count { OnOk result (CountsBuilt aims.now element.now walk.old.builds walk.new.builds) }
+    ensures whole { OnOk result (CountsTouched aims.now element.now walk.old.builds walk.new.builds) }
+    ensures tree { IfOk result (λ e. element_tree e ≡ green_rewritten given.now aims.now element.now) }
+    ensures marks { OnOk result (FindsRewritten given.now aims.now sought.now element.now walk.old walk.new) }
+{
+    // For the proof: the count at the start.
+    let _count = walk.builds;
+    if !aims.iter().any(|aim| aim.has_parent()) {
+        push_kept(alloc, &mut walk.found, &walk.path, element, 0, sought)?;
+        return element.share(alloc);
+    }
+    let GreenElement::Node(node) = element else {
+        push_kept(alloc, &mut walk.found, &walk.path, element, 0, sought)?;
+        return element.share(alloc);
+    };
+    let sorted = in_order(alloc, aims)?;
+    let top = open_node(alloc, walk, node, 0, &sorted, sought)?;
+    rewrite_open(alloc, walk, top, given)
 }

@@ -14,14 +14,13 @@ ghost use Rattle.one_pass.specs.inner.Pass.{entry_in};
 ghost use Rattle.one_pass.specs.inner.Root.{IsAlone, root_rewritten, FindsInRoot, CountsRoot};
 ghost use Rattle.one_pass.specs.inner.Sought.{AreInOrder};
 
-use crate::dependent::dependents;
+use crate::dependent::{ByOwner, by_owner};
 use crate::given_table::{given_table, rewritten_element};
-use crate::mark_paths::mark_paths;
+use crate::mark::{Walk, mark_paths};
 use crate::marked_element::GivenTable;
 use crate::sought::{Registered, in_document_order};
-use crate::walk::Walk;
 use cst_core::{GreenElement, GreenNode, SyntaxElement, SyntaxNode};
-use edit_change::{Aimed, Change, Fate, Planned, node_for_root, numbered_aim};
+use edit_change::{Aimed, Change, Planned, node_for_root};
 use std::alloc::{AllocError, Global};
 
 /// What one pass makes of a tree.
@@ -63,14 +62,13 @@ pub fn rewrite(
         fates,
         places,
     } = planned;
-    let aims = independent_aims(alloc, changes, fates)?;
-    let dependents = dependents(alloc, changes, fates, places)?;
+    let ByOwner { free, owned } = by_owner(alloc, changes, fates, places)?;
     let sought = in_document_order(alloc, registered)?;
-    let mut given = given_table(alloc, changes, order, &dependents, &sought, builds)?;
+    let mut given = given_table(alloc, changes, order, &owned, &sought, builds)?;
     given.top = Some(registered.len());
-    let replacement = root_replacement(root, changes, &aims);
+    let replacement = root_replacement(root, changes, &free);
     let mut walk = Walk::begin(alloc, *builds);
-    let made = rewritten_root(alloc, &mut walk, root, replacement, &aims, &sought, &given)?;
+    let made = rewritten_root(alloc, &mut walk, root, replacement, &free, &sought, &given)?;
     let GreenElement::Node(green) = made else {
         unreachable!()
     };
@@ -84,25 +82,6 @@ pub fn rewrite(
         copies: paths,
         changed,
     })
-}
-
-// The changes without an owner, by where they aim.
-pub(crate) fn independent_aims<'a>(
-    alloc: Global,
-    changes: &'a [Change],
-    fates: &[Fate],
-) -> Result<Vec<Aimed<'a>>, AllocError>
-    requires fit { (root : Element) × All (Fits root) changes.now }
-    requires fates { fates.now ≡ map (fate changes.now) changes.now }
-    ensures { IfOk result (λ v. aims_of v.items ≡ independents changes.now) }
-{
-    let mut aims = Vec::with_capacity(alloc, changes.len())?;
-    for number in 0..changes.len() {
-        if fates[number].is_independent() {
-            aims.push(numbered_aim(&changes[number], number))?;
-        }
-    }
-    Ok(aims)
 }
 
 // What the root becomes: what the change gives that replaces it, or the root with its children made anew. The walk finds the marks of it.
@@ -151,7 +130,7 @@ pub(crate) fn root_replacement(
     // For the proof: the contract speaks of the root, and the code needs the aims alone.
     let _ = root;
     for aim in aims {
-        if aim.surrounds(Some(&[])) {
+        if aim.replaces(&[]) {
             // For the proof: it brings one node.
             let _ = node_for_root(&changes[aim.change]);
             return Some(aim.change);

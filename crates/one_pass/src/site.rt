@@ -1,10 +1,12 @@
-//! Where an aim stands, as it is seen from a node whose children are made anew.
+//! Aims in document order, and where one stands, as it is seen from a node whose children are made anew.
 
-ghost use Rattle.std.specs.Prelude.{◌≡◌, ◌≤◌, ◌<◌, ◌+◌, length, MatchBool};
-ghost use Rattle.edit_change.specs.inner.Aimed.{formed};
-ghost use Rattle.one_pass.specs.inner.Sweep.{lowered, IsSite, IsBelow, BelowUpTo, EndsBelow};
+ghost use Rattle.std.specs.Prelude.{◌≡◌, ◌≤◌, ◌<◌, ◌+◌, length, IfOk};
+ghost use Rattle.edit_change.specs.inner.Aimed.{aims_of};
+ghost use Rattle.one_pass.specs.inner.Sweep.{lowered, AreOrdered, IsReordered, IsSite, BelowUpTo, EndsBelow};
 
+use crate::mark::path_from;
 use edit_change::{AimForm, Aimed};
+use std::alloc::{AllocError, Global};
 
 /// Where what is due to an aim stands among the children of a node.
 #[derive(Clone, Copy)]
@@ -19,26 +21,14 @@ pub enum Site {
     Nowhere,
 }
 
-// An aim as it is seen from a node so many slots down its path.
-fn lowered<'a>(aim: &Aimed<'a>, depth: usize) -> Aimed<'a>
-    ensures { formed result ≡ lowered depth aim.now }
-{
-    let path = match aim.path.get(depth..) {
-        Some(path) => path,
-        None => &[],
-    };
-    Aimed {
-        change: aim.change,
-        path,
-        form: aim.form,
-    }
-}
-
 /// Where an aim stands among so many children of the node at a depth.
 pub fn site_of(aim: &Aimed, depth: usize, count: usize) -> Site
     ensures { IsSite count (lowered depth aim.now) result }
 {
-    let aim = lowered(aim, depth);
+    let aim = Aimed {
+        path: path_from(aim.path, depth),
+        ..*aim
+    };
     if !aim.has_parent() {
         return Site::Nowhere;
     }
@@ -83,4 +73,14 @@ pub fn run_inside(aims: &[Aimed], depth: usize, slot: usize, count: usize) -> us
         }
     }
     aims.len()
+}
+
+/// The aims in document order, those at one site in their order. Takes linear time where they are in it, or the other way round.
+pub fn in_order<'a>(alloc: Global, aims: &[Aimed<'a>]) -> Result<Vec<Aimed<'a>>, AllocError>
+    ensures order { IfOk result (λ v. AreOrdered v.items) }
+    ensures same { IfOk result (λ v. IsReordered (aims_of aims.now) (aims_of v.items)) }
+{
+    let mut sorted = Vec::from_slice(alloc, aims)?;
+    sorted.sort_by(|one: &Aimed<'_>, two: &Aimed<'_>| one.compare_sites(two))?;
+    Ok(sorted)
 }

@@ -7,10 +7,10 @@ ghost use Rattle.std.specs.List.{enumerate_from};
 ghost use Rattle.cst_core.specs.Element.{address};
 ghost use Rattle.cst_core.specs.SyntaxElement.{element_of};
 ghost use Rattle.one_pass.specs.inner.Marked.{marks_seen};
-ghost use Rattle.one_pass.specs.inner.Sought.{place_of, as_registered, begins_with, addresses, within, sought_at};
+ghost use Rattle.one_pass.specs.inner.Sought.{place_of, as_registered, begins_with, addresses, sought_at};
 ghost use Rattle.one_pass.specs.inner.Sought.{AreInOrder, IsTableOf};
 
-use crate::mark::Sought;
+use crate::mark::{Sought, path_from};
 use cst_core::SyntaxElement;
 use std::alloc::{AllocError, Global};
 use std::cmp::Ordering;
@@ -67,19 +67,8 @@ pub fn in_document_order<'a>(
     Ok(registered)
 }
 
-// Those at an element or below it: one after another, since they are in document order.
-fn within<'s, 'a>(registered: &'s [Registered<'a>], element: &SyntaxElement) -> &'s [Registered<'a>]
-    requires { AreInOrder registered.now }
-    ensures { result.now ≡ within registered.now (address (element_of element.now)) }
-{
-    let top = Registered::of(element, 0);
-    let start = registered.partition_point(|one| one.compare(&top).is_lt());
-    let rest = &registered[start..];
-    let end = rest.partition_point(|one| one.is_within(&top));
-    &rest[..end]
-}
-
-/// The marks of those at an element or below it, with the paths from there.
+/// The marks of those at an element or below it, with the paths from there. They come one after another, since all are in document
+/// order.
 pub fn sought_at<'a>(
     alloc: Global,
     registered: &[Registered<'a>],
@@ -89,13 +78,17 @@ pub fn sought_at<'a>(
     ensures { IfOk result
         (λ v. marks_seen 0 v.items ≡ sought_at registered.now (address (element_of element.now))) }
 {
-    let depth = element.slots().len();
-    let here = within(registered, element);
+    let top = Registered::of(element, 0);
+    let start = registered.partition_point(|one| one.compare(&top).is_lt());
+    let rest = &registered[start..];
+    let end = rest.partition_point(|one| one.is_within(&top));
+    let here = &rest[..end];
+    let depth = top.mark.path.len();
     let mut sought = Vec::with_capacity(alloc, here.len())?;
     for one in here {
         sought.push(Sought {
             number: one.mark.number,
-            path: one.mark.path_from(depth),
+            path: path_from(one.mark.path, depth),
         })?;
     }
     Ok(sought)

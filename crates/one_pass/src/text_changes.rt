@@ -17,12 +17,11 @@ ghost use Rattle.one_pass.specs.inner.Pass.{given_in};
 ghost use Rattle.one_pass.specs.inner.Root.{IsAlone};
 ghost use Rattle.one_pass.specs.inner.TextOrder.{pieces_by, PushesPiece, AreMarkedByNumber, in_order_of, AreEditsOf};
 
-use crate::dependent::dependents;
+use crate::dependent::{ByOwner, by_owner};
 use crate::given_table::given_table;
-use crate::mark::Mark;
+use crate::mark::{Mark, Walk};
 use crate::marked_element::{GivenTable, MarkedElement};
-use crate::rewriting::{independent_aims, rewritten_root, root_replacement};
-use crate::walk::Walk;
+use crate::rewriting::{rewritten_root, root_replacement};
 use cst_core::{GreenElement, GreenNode, SyntaxElement, SyntaxNode};
 use edit_change::{Aimed, Change, Planned, aim_path, slot_after};
 use std::alloc::{AllocError, Global};
@@ -252,11 +251,10 @@ pub fn text_edits(alloc: Global, planned: Planned<'_>) -> Result<Vec<TextEdit>, 
         fates,
         places,
     } = planned;
-    let aims = independent_aims(alloc, changes, fates)?;
-    let dependents = dependents(alloc, changes, fates, places)?;
+    let ByOwner { free, owned } = by_owner(alloc, changes, fates, places)?;
     let mut builds = 0;
-    let given = given_table(alloc, changes, order, &dependents, &[], &mut builds)?;
-    let replacement = root_replacement(root, changes, &aims);
-    let numbers = in_text_order(alloc, root, changes, &aims, replacement)?;
+    let given = given_table(alloc, changes, order, &owned, &[], &mut builds)?;
+    let replacement = root_replacement(root, changes, &free);
+    let numbers = in_text_order(alloc, root, changes, &free, replacement)?;
     edits_in_order(alloc, root, changes, &given, &numbers)
 }

@@ -6,7 +6,7 @@ use crate::texts::push_texts;
 use crate::walks::push_walk;
 use cst_core::TreeIds;
 use std::alloc::{AllocError, Global};
-use syned_script::{Recorded, Words, record_script};
+use syned_script::{Dialect, Recorded, Words, record_script};
 use syntax_editor::{EditPlan, OnePassEngine, SpliceEngine, SyntaxEdit};
 
 /// A plan, and the annotation words that its elements are registered with.
@@ -19,7 +19,7 @@ pub struct Planned<'a> {
 
 /// All that is said of the plan of a script, if there is one and its text is not too long.
 pub fn push_plan(alloc: Global, out: &mut String, case: &Case<'_>) -> Result<(), AllocError> {
-    match record_script(alloc, &case.script) {
+    match record_script(alloc, Dialect::Syned, &case.script) {
         Some(recorded) => push_recorded(alloc, out, recorded, case),
         None => Ok(()),
     }

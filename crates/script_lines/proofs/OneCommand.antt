@@ -3,152 +3,159 @@
 --     only-edit and the like      what stands behind the word
 use Rattle.std.proofs.Common.{◌≡◌, ℕ, true, false, nat_eq, List, [], ◌∷◌, codes, Some, refl, sym, ◌∙◌, ap, subst}
 use Rattle.std.specs.Cmp.Lexicographic.{pointwise}
-use Rattle.cst_core.specs.Kind.{name_of}
 use Rattle.cst_core.specs.SyntaxKind.{SyntaxKind}
 use Rattle.cst_core.specs.Tree.{SyntaxTree}
+use Rattle.tree_text.specs.KindNames.{name_in}
+use Rattle.script_lines.specs.Dialect.{Language, names_kinds}
 use Rattle.script_lines.specs.Line.{Each, IsGap, IsLine, IsNumber, IsRef, IsTreeLine, fields, is_comment}
 use Rattle.script_lines.specs.Name.{IsName}
-use Rattle.script_lines.specs.ScriptLine.{Ref, Gap, ScriptLine, Tree, Edit, Map, Insert, Delete, Replace, Range, Note, Remove, Order, Finish}
+use Rattle.script_lines.specs.ScriptLine.{Ref, Gap, ScriptLine, Kinds, Tree, Edit, Map, Insert, Delete, Replace, Range, Note, Remove, Order, Finish}
 use Rattle.script_lines.proofs.WordOfLine.{begins, word-of}
 
--- a line of another word
-another : {A : Type 0} (line word : List ℕ) (all : List (List ℕ)) → fields line ≡ word ∷ all → is_comment word ≡ false → (l : ScriptLine) → IsLine line l → (pointwise nat_eq word word ≡ true) → (pointwise nat_eq word (word-of l) ≡ false) → A
-another line word all is comment l said own other =
-    let e : true ≡ false = sym own ∙ ap (λ w. pointwise nat_eq word w) (begins line word all is comment l said) ∙ other in
-    absurd (cc)
+module _ (lang : Language) where
+  -- a line of another word
+  another : {A : Type 0} (line word : List ℕ) (all : List (List ℕ)) → fields line ≡ word ∷ all → is_comment word ≡ false → (l : ScriptLine) → IsLine lang line l → (pointwise nat_eq word word ≡ true) → (pointwise nat_eq word (word-of l) ≡ false) → A
+  another line word all is comment l said own other =
+      let e : true ≡ false = sym own ∙ ap (λ w. pointwise nat_eq word w) (begins lang line word all is comment l said) ∙ other in
+      absurd (cc)
 
-behind : (fs : List (List ℕ)) (word : List ℕ) (all others : List (List ℕ)) → fs ≡ word ∷ all → fs ≡ word ∷ others → all ≡ others
-behind fs word all others is says = cc
+  behind : (fs : List (List ℕ)) (word : List ℕ) (all others : List (List ℕ)) → fs ≡ word ∷ all → fs ≡ word ∷ others → all ≡ others
+  behind fs word all others is says = cc
 
--- ---- edit
-pub record SaysEdit (all : List (List ℕ)) : Type 0 where
-  pub name : List ℕ
-  pub node : Ref
-  pub field : List ℕ
-  pub is : all ≡ name ∷ field ∷ []
-  pub named : IsName name
-  pub referred : IsRef field node
+  -- ---- edit
+  pub record SaysEdit (all : List (List ℕ)) : Type 0 where
+    pub name : List ℕ
+    pub node : Ref
+    pub field : List ℕ
+    pub is : all ≡ name ∷ field ∷ []
+    pub named : IsName name
+    pub referred : IsRef field node
 
-pub only-edit : (line : List ℕ) (all : List (List ℕ)) → fields line ≡ codes "edit" ∷ all → (l : ScriptLine) → IsLine line l → SaysEdit all
-only-edit line all is (Edit name node) said = record { name = name; node = node; field = said.0; is = behind (fields line) (codes "edit") all _ is said.1; named = said.2; referred = said.3 }
-only-edit line all is l said = another line (codes "edit") all is refl l said refl refl
+  pub only-edit : (line : List ℕ) (all : List (List ℕ)) → fields line ≡ codes "edit" ∷ all → (l : ScriptLine) → IsLine lang line l → SaysEdit all
+  only-edit line all is (Edit name node) said = record { name = name; node = node; field = said.0; is = behind (fields line) (codes "edit") all _ is said.1; named = said.2; referred = said.3 }
+  only-edit line all is l said = another line (codes "edit") all is refl l said refl refl
 
--- ---- map
-pub record SaysMap (all : List (List ℕ)) : Type 0 where
-  pub parent : Ref
-  pub input : Ref
-  pub output : Ref
-  pub first : List ℕ
-  pub second : List ℕ
-  pub third : List ℕ
-  pub is : all ≡ first ∷ second ∷ third ∷ []
-  pub is_parent : IsRef first parent
-  pub is_input : IsRef second input
-  pub is_output : IsRef third output
+  -- ---- map
+  pub record SaysMap (all : List (List ℕ)) : Type 0 where
+    pub parent : Ref
+    pub input : Ref
+    pub output : Ref
+    pub first : List ℕ
+    pub second : List ℕ
+    pub third : List ℕ
+    pub is : all ≡ first ∷ second ∷ third ∷ []
+    pub is_parent : IsRef first parent
+    pub is_input : IsRef second input
+    pub is_output : IsRef third output
 
-pub only-map : (line : List ℕ) (all : List (List ℕ)) → fields line ≡ codes "map" ∷ all → (l : ScriptLine) → IsLine line l → SaysMap all
-only-map line all is (Map parent input output) said = record { parent = parent; input = input; output = output; first = said.0; second = said.1; third = said.2; is = behind (fields line) (codes "map") all _ is said.3; is_parent = said.4; is_input = said.5; is_output = said.6 }
-only-map line all is l said = another line (codes "map") all is refl l said refl refl
+  pub only-map : (line : List ℕ) (all : List (List ℕ)) → fields line ≡ codes "map" ∷ all → (l : ScriptLine) → IsLine lang line l → SaysMap all
+  only-map line all is (Map parent input output) said = record { parent = parent; input = input; output = output; first = said.0; second = said.1; third = said.2; is = behind (fields line) (codes "map") all _ is said.3; is_parent = said.4; is_input = said.5; is_output = said.6 }
+  only-map line all is l said = another line (codes "map") all is refl l said refl refl
 
--- ---- insert
-pub record SaysInsert (all : List (List ℕ)) : Type 0 where
-  pub at : Gap
-  pub payload : List Ref
-  pub word : List ℕ
-  pub beside : List ℕ
-  pub others : List (List ℕ)
-  pub is : all ≡ word ∷ beside ∷ others
-  pub placed : IsGap word beside at
-  pub referred : Each IsRef others payload
+  -- ---- insert
+  pub record SaysInsert (all : List (List ℕ)) : Type 0 where
+    pub at : Gap
+    pub payload : List Ref
+    pub word : List ℕ
+    pub beside : List ℕ
+    pub others : List (List ℕ)
+    pub is : all ≡ word ∷ beside ∷ others
+    pub placed : IsGap word beside at
+    pub referred : Each IsRef others payload
 
-pub only-insert : (line : List ℕ) (all : List (List ℕ)) → fields line ≡ codes "insert" ∷ all → (l : ScriptLine) → IsLine line l → SaysInsert all
-only-insert line all is (Insert at payload) said = record { at = at; payload = payload; word = said.0; beside = said.1; others = said.2; is = behind (fields line) (codes "insert") all _ is said.3; placed = said.4; referred = said.5 }
-only-insert line all is l said = another line (codes "insert") all is refl l said refl refl
+  pub only-insert : (line : List ℕ) (all : List (List ℕ)) → fields line ≡ codes "insert" ∷ all → (l : ScriptLine) → IsLine lang line l → SaysInsert all
+  only-insert line all is (Insert at payload) said = record { at = at; payload = payload; word = said.0; beside = said.1; others = said.2; is = behind (fields line) (codes "insert") all _ is said.3; placed = said.4; referred = said.5 }
+  only-insert line all is l said = another line (codes "insert") all is refl l said refl refl
 
--- ---- delete
-pub record SaysDelete (all : List (List ℕ)) : Type 0 where
-  pub target : Ref
-  pub field : List ℕ
-  pub is : all ≡ field ∷ []
-  pub referred : IsRef field target
+  -- ---- delete
+  pub record SaysDelete (all : List (List ℕ)) : Type 0 where
+    pub target : Ref
+    pub field : List ℕ
+    pub is : all ≡ field ∷ []
+    pub referred : IsRef field target
 
-pub only-delete : (line : List ℕ) (all : List (List ℕ)) → fields line ≡ codes "delete" ∷ all → (l : ScriptLine) → IsLine line l → SaysDelete all
-only-delete line all is (Delete target) said = record { target = target; field = said.0; is = behind (fields line) (codes "delete") all _ is said.1; referred = said.2 }
-only-delete line all is l said = another line (codes "delete") all is refl l said refl refl
+  pub only-delete : (line : List ℕ) (all : List (List ℕ)) → fields line ≡ codes "delete" ∷ all → (l : ScriptLine) → IsLine lang line l → SaysDelete all
+  only-delete line all is (Delete target) said = record { target = target; field = said.0; is = behind (fields line) (codes "delete") all _ is said.1; referred = said.2 }
+  only-delete line all is l said = another line (codes "delete") all is refl l said refl refl
 
--- ---- replace
-pub record SaysReplace (all : List (List ℕ)) : Type 0 where
-  pub target : Ref
-  pub payload : List Ref
-  pub field : List ℕ
-  pub others : List (List ℕ)
-  pub is : all ≡ field ∷ others
-  pub is_target : IsRef field target
-  pub referred : Each IsRef others payload
+  -- ---- replace
+  pub record SaysReplace (all : List (List ℕ)) : Type 0 where
+    pub target : Ref
+    pub payload : List Ref
+    pub field : List ℕ
+    pub others : List (List ℕ)
+    pub is : all ≡ field ∷ others
+    pub is_target : IsRef field target
+    pub referred : Each IsRef others payload
 
-pub only-replace : (line : List ℕ) (all : List (List ℕ)) → fields line ≡ codes "replace" ∷ all → (l : ScriptLine) → IsLine line l → SaysReplace all
-only-replace line all is (Replace target payload) said = record { target = target; payload = payload; field = said.0; others = said.1; is = behind (fields line) (codes "replace") all _ is said.2; is_target = said.3; referred = said.4 }
-only-replace line all is l said = another line (codes "replace") all is refl l said refl refl
+  pub only-replace : (line : List ℕ) (all : List (List ℕ)) → fields line ≡ codes "replace" ∷ all → (l : ScriptLine) → IsLine lang line l → SaysReplace all
+  only-replace line all is (Replace target payload) said = record { target = target; payload = payload; field = said.0; others = said.1; is = behind (fields line) (codes "replace") all _ is said.2; is_target = said.3; referred = said.4 }
+  only-replace line all is l said = another line (codes "replace") all is refl l said refl refl
 
--- ---- range
-pub record SaysRange (all : List (List ℕ)) : Type 0 where
-  pub start : Ref
-  pub end : Ref
-  pub payload : List Ref
-  pub first : List ℕ
-  pub second : List ℕ
-  pub others : List (List ℕ)
-  pub is : all ≡ first ∷ second ∷ others
-  pub is_start : IsRef first start
-  pub is_end : IsRef second end
-  pub referred : Each IsRef others payload
+  -- ---- range
+  pub record SaysRange (all : List (List ℕ)) : Type 0 where
+    pub start : Ref
+    pub end : Ref
+    pub payload : List Ref
+    pub first : List ℕ
+    pub second : List ℕ
+    pub others : List (List ℕ)
+    pub is : all ≡ first ∷ second ∷ others
+    pub is_start : IsRef first start
+    pub is_end : IsRef second end
+    pub referred : Each IsRef others payload
 
-pub only-range : (line : List ℕ) (all : List (List ℕ)) → fields line ≡ codes "range" ∷ all → (l : ScriptLine) → IsLine line l → SaysRange all
-only-range line all is (Range start end payload) said = record { start = start; end = end; payload = payload; first = said.0; second = said.1; others = said.2; is = behind (fields line) (codes "range") all _ is said.3; is_start = said.4; is_end = said.5; referred = said.6 }
-only-range line all is l said = another line (codes "range") all is refl l said refl refl
+  pub only-range : (line : List ℕ) (all : List (List ℕ)) → fields line ≡ codes "range" ∷ all → (l : ScriptLine) → IsLine lang line l → SaysRange all
+  only-range line all is (Range start end payload) said = record { start = start; end = end; payload = payload; first = said.0; second = said.1; others = said.2; is = behind (fields line) (codes "range") all _ is said.3; is_start = said.4; is_end = said.5; referred = said.6 }
+  only-range line all is l said = another line (codes "range") all is refl l said refl refl
 
--- ---- note
-pub record SaysNote (all : List (List ℕ)) : Type 0 where
-  pub word : List ℕ
-  pub element : Ref
-  pub field : List ℕ
-  pub is : all ≡ word ∷ field ∷ []
-  pub named : IsName word
-  pub referred : IsRef field element
+  -- ---- note
+  pub record SaysNote (all : List (List ℕ)) : Type 0 where
+    pub word : List ℕ
+    pub element : Ref
+    pub field : List ℕ
+    pub is : all ≡ word ∷ field ∷ []
+    pub named : IsName word
+    pub referred : IsRef field element
 
-pub only-note : (line : List ℕ) (all : List (List ℕ)) → fields line ≡ codes "note" ∷ all → (l : ScriptLine) → IsLine line l → SaysNote all
-only-note line all is (Note word element) said = record { word = word; element = element; field = said.0; is = behind (fields line) (codes "note") all _ is said.1; named = said.2; referred = said.3 }
-only-note line all is l said = another line (codes "note") all is refl l said refl refl
+  pub only-note : (line : List ℕ) (all : List (List ℕ)) → fields line ≡ codes "note" ∷ all → (l : ScriptLine) → IsLine lang line l → SaysNote all
+  only-note line all is (Note word element) said = record { word = word; element = element; field = said.0; is = behind (fields line) (codes "note") all _ is said.1; named = said.2; referred = said.3 }
+  only-note line all is l said = another line (codes "note") all is refl l said refl refl
 
--- ---- remove
-pub record SaysRemove (all : List (List ℕ)) : Type 0 where
-  pub element : Ref
-  pub separator : SyntaxKind
-  pub field : List ℕ
-  pub kind : List ℕ
-  pub is : all ≡ field ∷ kind ∷ []
-  pub referred : IsRef field element
-  pub is_kind : name_of separator.0 ≡ Some kind
+  -- ---- remove
+  pub record SaysRemove (all : List (List ℕ)) : Type 0 where
+    pub element : Ref
+    pub separator : SyntaxKind
+    pub field : List ℕ
+    pub kind : List ℕ
+    pub is : all ≡ field ∷ kind ∷ []
+    pub referred : IsRef field element
+    pub is_kind : name_in lang.kinds separator.0 ≡ Some kind
 
-pub only-remove : (line : List ℕ) (all : List (List ℕ)) → fields line ≡ codes "remove" ∷ all → (l : ScriptLine) → IsLine line l → SaysRemove all
-only-remove line all is (Remove element separator) said = record { element = element; separator = separator; field = said.0; kind = said.1; is = behind (fields line) (codes "remove") all _ is said.2; referred = said.3; is_kind = said.4 }
-only-remove line all is l said = another line (codes "remove") all is refl l said refl refl
+  pub only-remove : (line : List ℕ) (all : List (List ℕ)) → fields line ≡ codes "remove" ∷ all → (l : ScriptLine) → IsLine lang line l → SaysRemove all
+  only-remove line all is (Remove element separator) said = record { element = element; separator = separator; field = said.0; kind = said.1; is = behind (fields line) (codes "remove") all _ is said.2; referred = said.3; is_kind = said.4 }
+  only-remove line all is l said = another line (codes "remove") all is refl l said refl refl
 
--- ---- order
-pub record SaysOrder (all : List (List ℕ)) : Type 0 where
-  pub order : List ℕ
-  pub numbered : Each IsNumber all order
+  -- ---- order
+  pub record SaysOrder (all : List (List ℕ)) : Type 0 where
+    pub order : List ℕ
+    pub numbered : Each IsNumber all order
 
-pub only-order : (line : List ℕ) (all : List (List ℕ)) → fields line ≡ codes "order" ∷ all → (l : ScriptLine) → IsLine line l → SaysOrder all
-only-order line all is (Order order) said = record { order = order; numbered = subst (λ fs. Each IsNumber fs order) (sym (behind (fields line) (codes "order") all said.0 is said.1)) said.2 }
-only-order line all is l said = another line (codes "order") all is refl l said refl refl
+  pub only-order : (line : List ℕ) (all : List (List ℕ)) → fields line ≡ codes "order" ∷ all → (l : ScriptLine) → IsLine lang line l → SaysOrder all
+  only-order line all is (Order order) said = record { order = order; numbered = subst (λ fs. Each IsNumber fs order) (sym (behind (fields line) (codes "order") all said.0 is said.1)) said.2 }
+  only-order line all is l said = another line (codes "order") all is refl l said refl refl
 
--- ---- finish
-pub only-finish : (line : List ℕ) (all : List (List ℕ)) → fields line ≡ codes "finish" ∷ all → (l : ScriptLine) → IsLine line l → all ≡ []
-only-finish line all is Finish said = behind (fields line) (codes "finish") all [] is said
-only-finish line all is l said = another line (codes "finish") all is refl l said refl refl
+  -- ---- finish
+  pub only-finish : (line : List ℕ) (all : List (List ℕ)) → fields line ≡ codes "finish" ∷ all → (l : ScriptLine) → IsLine lang line l → all ≡ []
+  only-finish line all is Finish said = behind (fields line) (codes "finish") all [] is said
+  only-finish line all is l said = another line (codes "finish") all is refl l said refl refl
 
--- ---- tree
-pub only-tree : (line : List ℕ) (all : List (List ℕ)) → fields line ≡ codes "tree" ∷ all → (l : ScriptLine) → IsLine line l → (name : List ℕ) × (root : SyntaxTree) × IsTreeLine line name root
-only-tree line all is (Tree name root) said = (name, root, said)
-only-tree line all is l said = another line (codes "tree") all is refl l said refl refl
+  -- ---- kinds
+  pub only-kinds : (line : List ℕ) (all : List (List ℕ)) → fields line ≡ codes "kinds" ∷ all → (l : ScriptLine) → IsLine lang line l → names_kinds lang.dialect ≡ true
+  only-kinds line all is (Kinds names) said = said.0
+  only-kinds line all is l said = another line (codes "kinds") all is refl l said refl refl
+
+  -- ---- tree
+  pub only-tree : (line : List ℕ) (all : List (List ℕ)) → fields line ≡ codes "tree" ∷ all → (l : ScriptLine) → IsLine lang line l → (name : List ℕ) × (root : SyntaxTree) × IsTreeLine lang line name root
+  only-tree line all is (Tree name root) said = (name, root, said)
+  only-tree line all is l said = another line (codes "tree") all is refl l said refl refl

@@ -8,9 +8,10 @@
 --     no-other          the first word says this, and no other
 use Rattle.std.proofs.Common.{◌≡◌, ℕ, List, ◌∷◌, Result, Ok, Err, IfErr, IsErrAnd, codes, sym, subst}
 use Rattle.script_lines.specs.Refusals.{Refuses}
+use Rattle.script_lines.specs.Dialect.{Language}
 use Rattle.script_lines.specs.Line.{IsGap, IsLine, IsRef, fields}
 use Rattle.script_lines.specs.ScriptLine.{Ref, Gap, First, Last, Before, After, ScriptLine}
-use Rattle.script_lines.specs.inner.Commands.{BeginsPlace, IsPlace, IsRead, IsTreeRead}
+use Rattle.script_lines.specs.inner.Commands.{BeginsPlace, IsPlace, IsReadIn, IsTreeRead}
 use Rattle.script_lines.specs.inner.Taken.{Begins, IsTaken}
 use Rattle.script_lines.specs.declared.line.Line.{Line}
 use Rattle.script_lines.specs.inner.Word.{IsFirstWord, IsSpread}
@@ -44,13 +45,13 @@ no-other Says all left rest word a is taken =
     subst (λ w. Says w a) same taken.says
 
 -- ---- a line that begins with a word
-pub bad-read : (word : List ℕ) (all : List (List ℕ)) (r : Result Line LineError) (fault : Fault) → IsErrAnd r (λ e. e ≡ Bad fault) → ((line : List ℕ) → fields line ≡ word ∷ all → (l : ScriptLine) → IsLine line l → ⊥) → IsRead word all r
-bad-read word all (Ok l) fault is none = absurd is
-bad-read word all (Err e) fault is none = λ line begins. bad-refuses (IsLine line) e fault is (none line begins)
+pub bad-read : (lang : Language) (word : List ℕ) (all : List (List ℕ)) (r : Result Line LineError) (fault : Fault) → IsErrAnd r (λ e. e ≡ Bad fault) → ((line : List ℕ) → fields line ≡ word ∷ all → (l : ScriptLine) → IsLine lang line l → ⊥) → IsReadIn lang word all r
+bad-read lang word all (Ok l) fault is none = absurd is
+bad-read lang word all (Err e) fault is none = λ line begins. bad-refuses (IsLine lang line) e fault is (none line begins)
 
-pub err-read : {A : Type 0} (P : A → Type 0) (word : List ℕ) (all : List (List ℕ)) (r : Result Line LineError) (e : LineError) → IsErrAnd r (λ d. d ≡ e) → Refuses P e → ((line : List ℕ) → fields line ≡ word ∷ all → (l : ScriptLine) → IsLine line l → (a : A) × P a) → IsRead word all r
-err-read P word all (Ok l) e is none has = absurd is
-err-read P word all (Err d) e is none has = λ line begins. subst (Refuses (IsLine line)) (sym is) (refuses-part P (IsLine line) e (has line begins) none)
+pub err-read : {A : Type 0} (lang : Language) (P : A → Type 0) (word : List ℕ) (all : List (List ℕ)) (r : Result Line LineError) (e : LineError) → IsErrAnd r (λ d. d ≡ e) → Refuses P e → ((line : List ℕ) → fields line ≡ word ∷ all → (l : ScriptLine) → IsLine lang line l → (a : A) × P a) → IsReadIn lang word all r
+err-read lang P word all (Ok l) e is none has = absurd is
+err-read lang P word all (Err d) e is none has = λ line begins. subst (Refuses (IsLine lang line)) (sym is) (refuses-part P (IsLine lang line) e (has line begins) none)
 
 pub behind-taken : {A : Type 0} (Says : List ℕ → A → Type 0) (all left others : List (List ℕ)) (word : List ℕ) (a : A) → IsTaken Says all left a → all ≡ word ∷ others → left ≡ others
 behind-taken Says all left others word a taken is = let first : all ≡ taken.word ∷ left = taken.first in cc
@@ -73,10 +74,10 @@ beside-ref all others word is gap begun =
     (ref.0, (begun.0, record { word = place.beside; first = left; says = ref.1 }))
 
 -- ---- a line for a new tree
-pub bad-tree : (left : List ℕ) (r : Result Line LineError) (fault : Fault) → IsErrAnd r (λ e. e ≡ Bad fault) → ((line text : List ℕ) → IsSpread line text → IsFirstWord text (codes "tree") left → (l : ScriptLine) → IsLine line l → ⊥) → IsTreeRead left r
-bad-tree left (Ok l) fault is none = absurd is
-bad-tree left (Err e) fault is none = λ line text spread word. bad-refuses (IsLine line) e fault is (none line text spread word)
+pub bad-tree : (lang : Language) (left : List ℕ) (r : Result Line LineError) (fault : Fault) → IsErrAnd r (λ e. e ≡ Bad fault) → ((line text : List ℕ) → IsSpread line text → IsFirstWord text (codes "tree") left → (l : ScriptLine) → IsLine lang line l → ⊥) → IsTreeRead lang left r
+bad-tree lang left (Ok l) fault is none = absurd is
+bad-tree lang left (Err e) fault is none = λ line text spread word. bad-refuses (IsLine lang line) e fault is (none line text spread word)
 
-pub err-tree : {A : Type 0} (P : A → Type 0) (left : List ℕ) (r : Result Line LineError) (e : LineError) → IsErrAnd r (λ d. d ≡ e) → Refuses P e → ((line text : List ℕ) → IsSpread line text → IsFirstWord text (codes "tree") left → (l : ScriptLine) → IsLine line l → (a : A) × P a) → IsTreeRead left r
-err-tree P left (Ok l) e is none has = absurd is
-err-tree P left (Err d) e is none has = λ line text spread word. subst (Refuses (IsLine line)) (sym is) (refuses-part P (IsLine line) e (has line text spread word) none)
+pub err-tree : {A : Type 0} (lang : Language) (P : A → Type 0) (left : List ℕ) (r : Result Line LineError) (e : LineError) → IsErrAnd r (λ d. d ≡ e) → Refuses P e → ((line text : List ℕ) → IsSpread line text → IsFirstWord text (codes "tree") left → (l : ScriptLine) → IsLine lang line l → (a : A) × P a) → IsTreeRead lang left r
+err-tree lang P left (Ok l) e is none has = absurd is
+err-tree lang P left (Err d) e is none has = λ line text spread word. subst (Refuses (IsLine lang line)) (sym is) (refuses-part P (IsLine lang line) e (has line text spread word) none)

@@ -1,4 +1,5 @@
 pub mod Name
+pub mod Dialect
 pub mod ScriptLine
 pub mod Line
 pub mod LineValue

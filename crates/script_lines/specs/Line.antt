@@ -9,12 +9,12 @@
 --     IsRef                         The parts between the slashes of a field are a name and then the numbers of a path.
 --     IsGap                         A word and a field say a position: `first` or `last` and a node, `before` or `after` and an element.
 --     IsSpaces                      Nothing but spaces.
---     IsLineTree                    An expression of a tree with only spaces between elements and no names of one's own, nested at most 200
---                                   deep.
+--     IsLineTree                    An expression of a tree with only spaces between elements, with the names of kinds that were given, nested
+--                                   at most as deep as the dialect allows.
 --     IsTreeLine                    A line for a new tree: `tree`, a name and the tree's expression, with spaces between and, if any, at
 --                                   both ends. The expression is the rest of the line, so it may have spaces.
---     IsLine                        A line says this. It has no other form: the fields of a command are its word and exactly those that it
---                                   needs.
+--     IsLine                        A line says this, in a language. It has no other form: the fields of a command are its word and exactly
+--                                   those that it needs.
 --
 -- The line `insert before R/4/0 NEW` has the fields `insert`, `before`, `R/4/0` and `NEW`, and says: insert the root of
 -- `NEW` before the element at the path 4/0 of `R`. Between the slashes of `R/4/0` are `R`, `4` and `0`; those of `NEW`
@@ -24,12 +24,12 @@ use Rattle.std.specs.Prelude.{◌≡◌, ◌≢◌, ℕ, ◌==◌, ◌-◌, ◌<
 use Rattle.std.specs.List.{slice_split, ends_with, starts_with, AllByRecursion}
 use Rattle.std.specs.Str.Parse.{IsNumeral, digits_value}
 use Rattle.cst_core.specs.Tree.{SyntaxTree}
-use Rattle.cst_core.specs.Kind.{name_of}
-use Rattle.tree_text.specs.Depth.{depth, depth_limit}
+use Rattle.tree_text.specs.Depth.{depth}
 use Rattle.tree_text.specs.Grammar.{IsExpression, is_gap_space}
 use Rattle.tree_text.specs.KindNames.{name_in}
+use Rattle.script_lines.specs.Dialect.{Language, depth_in, names_kinds}
 use Rattle.script_lines.specs.Name.{IsName}
-use Rattle.script_lines.specs.ScriptLine.{Ref, Gap, First, Last, Before, After, ScriptLine, Blank, Tree, Edit, Map, Insert, Delete, Replace, Range, Note, Remove, Order, Finish}
+use Rattle.script_lines.specs.ScriptLine.{Ref, Gap, First, Last, Before, After, ScriptLine, Blank, Kinds, Tree, Edit, Map, Insert, Delete, Replace, Range, Note, Remove, Order, Finish}
 
 abbrev pub line_text : List ℕ → List ℕ
 line_text line = cond (ends_with nat_eq line (13 ∷ [])) (take (length line - 1) line) line
@@ -82,10 +82,10 @@ IsGap word beside (After element) = (word ≡ codes "after") × IsRef beside ele
 abbrev pub IsSpaces : List ℕ → Type 0
 IsSpaces text = AllByRecursion (λ b. b ≡ 32) text
 
-abbrev pub IsLineTree : List ℕ → SyntaxTree → Type 0
-IsLineTree text root = IsExpression (name_in []) is_gap_space root text × (depth root ≤ depth_limit)
+abbrev pub IsLineTree : Language → List ℕ → SyntaxTree → Type 0
+IsLineTree l text root = IsExpression (name_in l.kinds) is_gap_space root text × (depth root ≤ depth_in l.dialect)
 
-pub record IsTreeLine (line name : List ℕ) (root : SyntaxTree) : Type 0 where
+pub record IsTreeLine (l : Language) (line name : List ℕ) (root : SyntaxTree) : Type 0 where
   pub before : List ℕ
   pub between : List ℕ
   pub after : List ℕ
@@ -95,28 +95,29 @@ pub record IsTreeLine (line name : List ℕ) (root : SyntaxTree) : Type 0 where
   pub spaces : IsSpaces before × IsSpaces between × IsSpaces after × IsSpaces rest
   pub apart : (between ≢ []) × (after ≢ [])
   pub named : IsName name
-  pub drawn : IsLineTree expression root
+  pub drawn : IsLineTree l expression root
 
-abbrev pub IsLine : List ℕ → ScriptLine → Type 0
-IsLine line Blank = is_blank line ≡ true
-IsLine line (Tree name root) = IsTreeLine line name root
-IsLine line (Edit name node) =
+abbrev pub IsLine : Language → List ℕ → ScriptLine → Type 0
+IsLine l line Blank = is_blank line ≡ true
+IsLine l line (Kinds names) = (names_kinds l.dialect ≡ true) × (fields line ≡ codes "kinds" ∷ names)
+IsLine l line (Tree name root) = IsTreeLine l line name root
+IsLine l line (Edit name node) =
     (f : List ℕ) × (fields line ≡ codes "edit" ∷ name ∷ f ∷ []) × IsName name × IsRef f node
-IsLine line (Map parent input output) =
+IsLine l line (Map parent input output) =
     (f g h : List ℕ) × (fields line ≡ codes "map" ∷ f ∷ g ∷ h ∷ []) × IsRef f parent × IsRef g input × IsRef h output
-IsLine line (Insert at payload) =
+IsLine l line (Insert at payload) =
     (w f : List ℕ) × (fs : List (List ℕ)) ×
     (fields line ≡ codes "insert" ∷ w ∷ f ∷ fs) × IsGap w f at × Each IsRef fs payload
-IsLine line (Delete target) = (f : List ℕ) × (fields line ≡ codes "delete" ∷ f ∷ []) × IsRef f target
-IsLine line (Replace target payload) =
+IsLine l line (Delete target) = (f : List ℕ) × (fields line ≡ codes "delete" ∷ f ∷ []) × IsRef f target
+IsLine l line (Replace target payload) =
     (f : List ℕ) × (fs : List (List ℕ)) ×
     (fields line ≡ codes "replace" ∷ f ∷ fs) × IsRef f target × Each IsRef fs payload
-IsLine line (Range first last payload) =
+IsLine l line (Range first last payload) =
     (f g : List ℕ) × (fs : List (List ℕ)) ×
     (fields line ≡ codes "range" ∷ f ∷ g ∷ fs) × IsRef f first × IsRef g last × Each IsRef fs payload
-IsLine line (Note word element) =
+IsLine l line (Note word element) =
     (f : List ℕ) × (fields line ≡ codes "note" ∷ word ∷ f ∷ []) × IsName word × IsRef f element
-IsLine line (Remove element separator) =
-    (f k : List ℕ) × (fields line ≡ codes "remove" ∷ f ∷ k ∷ []) × IsRef f element × (name_of separator.0 ≡ Some k)
-IsLine line (Order order) = (fs : List (List ℕ)) × (fields line ≡ codes "order" ∷ fs) × Each IsNumber fs order
-IsLine line Finish = fields line ≡ codes "finish" ∷ []
+IsLine l line (Remove element separator) =
+    (f k : List ℕ) × (fields line ≡ codes "remove" ∷ f ∷ k ∷ []) × IsRef f element × (name_in l.kinds separator.0 ≡ Some k)
+IsLine l line (Order order) = (fs : List (List ℕ)) × (fields line ≡ codes "order" ∷ fs) × Each IsNumber fs order
+IsLine l line Finish = fields line ≡ codes "finish" ∷ []

@@ -3,7 +3,7 @@
 --
 --     Ref, Gap                      The way to an element: the name of a tree, and a path in it. A position: the first or the last gap of a
 --                                   node, the gap before or after an element.
---     ScriptLine                    What a line says: nothing (`Blank`), or one of the eleven commands with what it names. A tree stands
+--     ScriptLine                    What a line says: nothing (`Blank`), or one of the twelve commands with what it names. A tree stands
 --                                   for itself, names and annotation words are bytes.
 use Rattle.std.specs.Prelude.{ℕ, List}
 use Rattle.cst_core.specs.Path.{Path}
@@ -22,6 +22,7 @@ pub data Gap : Type 0 where
 
 pub data ScriptLine : Type 0 where
   Blank : ScriptLine
+  Kinds : (names : List (List ℕ)) → ScriptLine
   Tree : (name : List ℕ) (root : SyntaxTree) → ScriptLine
   Edit : (name : List ℕ) (node : Ref) → ScriptLine
   Map : (parent input output : Ref) → ScriptLine

@@ -14,6 +14,8 @@ pub enum Wanted {
     Reference,
     /// The name of a kind.
     Kind,
+    /// A name for a kind.
+    NewKind,
     /// The number of a change.
     Number,
     /// The word before the element that a position is beside.
@@ -33,6 +35,7 @@ impl Wanted {
             Wanted::Reference =>
                 "an element is expected: the name of its tree, and each slot on the way after a /",
             Wanted::Kind => "the name of a kind is expected",
+            Wanted::NewKind => "a name for a kind is expected: letters, digits and underscores",
             Wanted::Number => "the number of a change is expected",
             Wanted::Place => "first, last, before or after is expected",
             Wanted::End => "the line has to end",

@@ -1,8 +1,8 @@
 //! The fields of a line, with spaces between them.
-ghost use Rattle.std.specs.Prelude.{◌≡◌, ◌≢◌, ℕ, List, [], ◌∷◌, true, false, map};
+ghost use Rattle.std.specs.Prelude.{◌≡◌, ◌≢◌, ℕ, List, [], ◌∷◌, true, false};
 ghost use Rattle.std.specs.Prelude.{IfErr, IfOk, IfSome, MatchOption, OnErr, OnOk};
 ghost use Rattle.script_lines.specs.Line.{Each, IsNumber, IsRef, fields, no_command, words};
-ghost use Rattle.script_lines.specs.LineValue.{ref_of, refs_of};
+ghost use Rattle.script_lines.specs.LineValue.{ref_of, refs_of, texts_of};
 ghost use Rattle.script_lines.specs.Refusals.{Refuses};
 ghost use Rattle.cst_core.specs.SyntaxKind.{SyntaxKind};
 ghost use Rattle.script_lines.specs.inner.Taken.{Begins, IsKindName, IsLast, IsNamed, IsTaken};
@@ -15,12 +15,13 @@ use crate::reference::{Reference, read_number};
 use crate::spaces::{cut_at_space, without_first_spaces, without_last_spaces};
 use cst_core::SyntaxKind;
 use std::alloc::{AllocError, Global};
+use tree_text::KindNames;
 
 /// A field, and where it begins in its line, in bytes from 0.
 #[derive(Clone, Copy)]
-pub(crate) struct Field<'a> {
-    pub(crate) text: &'a str,
-    pub(crate) at: usize,
+pub struct Field<'a> {
+    pub text: &'a str,
+    pub at: usize,
 }
 
 /// What is left of a line.
@@ -105,13 +106,16 @@ impl<'a> Fields<'a> {
     }
 
     /// A kind, after which nothing is left.
-    pub(crate) fn last_kind(&mut self) -> Result<SyntaxKind, Fault>
-        ensures ok { IfOk result (λ kind. IsLast IsKindName (words self.old.rest.now) kind) }
-        ensures bad { OnErr result ((kind : SyntaxKind) → IsLast IsKindName (words self.old.rest.now) kind → ⊥) }
+    pub(crate) fn last_kind(&mut self, names: &KindNames) -> Result<SyntaxKind, Fault>
+        ensures ok { IfOk result (λ kind. IsLast (IsKindName names.now) (words self.old.rest.now) kind) }
+        ensures bad { OnErr result
+            ((kind : SyntaxKind) → IsLast (IsKindName names.now) (words self.old.rest.now) kind → ⊥) }
     {
         let field = self.field(Wanted::Kind)?;
         self.end()?;
-        SyntaxKind::from_name(field.text).ok_or(Fault::wanted(field.at, Wanted::Kind))
+        names
+            .kind(field.text)
+            .ok_or(Fault::wanted(field.at, Wanted::Kind))
     }
 
     pub(crate) fn reference(&mut self, alloc: Global) -> Result<Reference<'a>, LineError>
@@ -158,8 +162,9 @@ impl<'a> Fields<'a> {
         Ok(numbers)
     }
 
-    fn others(&mut self, alloc: Global) -> Result<Vec<Field<'a>>, AllocError>
-        ensures { IfOk result (λ fields. map (λ f. f.text.now) fields.items ≡ words self.old.rest.now) }
+    /// All fields that are left.
+    pub(crate) fn others(&mut self, alloc: Global) -> Result<Vec<Field<'a>>, AllocError>
+        ensures { IfOk result (λ fields. texts_of fields.items ≡ words self.old.rest.now) }
     {
         let mut fields = Vec::new(alloc);
         let Field { text: left, mut at } = self.take_rest();

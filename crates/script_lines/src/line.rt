@@ -2,24 +2,29 @@
 ghost use Rattle.std.specs.Prelude.{◌≡◌, IfOk, IfErr, codes};
 ghost use Rattle.cst_core.specs.Green.{branch_tree};
 ghost use Rattle.script_lines.specs.Line.{IsLine, IsLineTree, is_blank, words};
-ghost use Rattle.script_lines.specs.LineValue.{gap_of, line_of};
+ghost use Rattle.script_lines.specs.LineValue.{gap_of, language_of, line_of};
 ghost use Rattle.script_lines.specs.Refusals.{Refuses};
-ghost use Rattle.script_lines.specs.inner.Commands.{BeginsPlace, IsPlace, IsRead, IsTreeRead};
+ghost use Rattle.script_lines.specs.inner.Commands.{BeginsPlace, IsPlace, IsRead, IsReadIn, IsTreeRead};
 
 use crate::error::LineError;
 use crate::fault::{Fault, Wanted};
 use crate::field::{Field, Fields};
+use crate::language::Language;
 use crate::name::Name;
 use crate::reference::Reference;
 use cst_core::{GreenNode, SyntaxKind};
 use std::alloc::Global;
-use tree_text::read_line_tree;
+use tree_text::read_line_tree_with;
 
 /// A line that is well formed. Whether its names stand for something is seen when it is carried out.
 #[derive(Drop)]
 pub enum Line<'a> {
     /// An empty line or a comment.
     Blank,
+    /// Names for further kinds.
+    Kinds {
+        names: Vec<Field<'a>>,
+    },
     /// A new tree of this name.
     Tree {
         name: Name<'a>,
@@ -86,16 +91,21 @@ pub enum WrittenPosition<'a> {
 }
 
 /// The line of this text, which has no newline. One carriage return at its end is dropped, then spaces at both ends.
-pub fn read_line<'a>(alloc: Global, text: &'a str) -> Result<Line<'a>, LineError>
-    ensures ok { IfOk result (λ l. IsLine text.now (line_of l)) }
-    ensures bad { IfErr result (Refuses (IsLine text.now)) }
+pub fn read_line<'a>(
+    alloc: Global,
+    language: &Language,
+    text: &'a str,
+) -> Result<Line<'a>, LineError>
+    ensures ok { IfOk result (λ l. IsLine (language_of language.now) text.now (line_of l)) }
+    ensures bad { IfErr result (Refuses (IsLine (language_of language.now) text.now)) }
 {
     let mut fields = Fields::of_line(text);
     let Some(word) = fields.word() else {
         return Ok(Line::Blank);
     };
     match word.text {
-        "tree" => tree_line(alloc, &mut fields),
+        "kinds" => kinds_line(alloc, language, word, &mut fields),
+        "tree" => tree_line(alloc, language, &mut fields),
         "edit" => edit_line(alloc, &mut fields),
         "map" => map_line(alloc, &mut fields),
         "insert" => insert_line(alloc, &mut fields),
@@ -103,7 +113,7 @@ pub fn read_line<'a>(alloc: Global, text: &'a str) -> Result<Line<'a>, LineError
         "replace" => replace_line(alloc, &mut fields),
         "range" => range_line(alloc, &mut fields),
         "note" => note_line(alloc, &mut fields),
-        "remove" => remove_line(alloc, &mut fields),
+        "remove" => remove_line(alloc, language, &mut fields),
         "order" => order_line(alloc, &mut fields),
         "finish" => finish_line(&fields),
         _ => Err(LineError::from(Fault::wanted(word.at, Wanted::Word))),
@@ -117,22 +127,49 @@ pub fn is_blank(text: &str) -> bool
     Fields::of_line(text).word().is_none()
 }
 
-fn tree_line<'a>(alloc: Global, fields: &mut Fields<'a>) -> Result<Line<'a>, LineError>
-    ensures { IsTreeRead fields.old.rest.now result }
+// The word of a line that may not name kinds says nothing.
+fn kinds_line<'a>(
+    alloc: Global,
+    language: &Language,
+    word: Field<'_>,
+    fields: &mut Fields<'a>,
+) -> Result<Line<'a>, LineError>
+    ensures { IsReadIn (language_of language.now) (codes "kinds") (words fields.old.rest.now) result }
+{
+    if !language.dialect.names_kinds() {
+        return Err(LineError::from(Fault::wanted(word.at, Wanted::Word)));
+    }
+    let names = fields.others(alloc)?;
+    Ok(Line::Kinds { names })
+}
+
+fn tree_line<'a>(
+    alloc: Global,
+    language: &Language,
+    fields: &mut Fields<'a>,
+) -> Result<Line<'a>, LineError>
+    ensures { IsTreeRead (language_of language.now) fields.old.rest.now result }
 {
     let name = fields.name()?;
-    let root = tree_of(alloc, fields.take_rest())?;
+    let root = tree_of(alloc, language, fields.take_rest())?;
     Ok(Line::Tree { name, root })
 }
 
-fn tree_of(alloc: Global, expression: Field<'_>) -> Result<GreenNode, LineError>
-    ensures ok { IfOk result (λ root. IsLineTree expression.entry.text.now (branch_tree root)) }
-    ensures bad { IfErr result (Refuses (IsLineTree expression.entry.text.now)) }
+fn tree_of(
+    alloc: Global,
+    language: &Language,
+    expression: Field<'_>,
+) -> Result<GreenNode, LineError>
+    ensures ok { IfOk result
+        (λ root. IsLineTree (language_of language.now) expression.entry.text.now (branch_tree root)) }
+    ensures bad { IfErr result (Refuses (IsLineTree (language_of language.now) expression.entry.text.now)) }
 {
-    read_line_tree(alloc, expression.text).map_err(|error| LineError::of_expression(
-        expression.at,
-        error,
-    ))
+    // For the proof: the names are names, and no two kinds have the same.
+    language.names.are_names();
+    let limit = language.dialect.depth_limit();
+    read_line_tree_with(alloc, expression.text, &language.names, limit).map_err(
+        |error| LineError::of_expression(expression.at, error),
+    )
 }
 
 fn edit_line<'a>(alloc: Global, fields: &mut Fields<'a>) -> Result<Line<'a>, LineError>
@@ -218,11 +255,15 @@ fn note_line<'a>(alloc: Global, fields: &mut Fields<'a>) -> Result<Line<'a>, Lin
     Ok(Line::Note { word, element })
 }
 
-fn remove_line<'a>(alloc: Global, fields: &mut Fields<'a>) -> Result<Line<'a>, LineError>
-    ensures { IsRead (codes "remove") (words fields.old.rest.now) result }
+fn remove_line<'a>(
+    alloc: Global,
+    language: &Language,
+    fields: &mut Fields<'a>,
+) -> Result<Line<'a>, LineError>
+    ensures { IsReadIn (language_of language.now) (codes "remove") (words fields.old.rest.now) result }
 {
     let element = fields.reference(alloc)?;
-    let separator = fields.last_kind()?;
+    let separator = fields.last_kind(&language.names)?;
     Ok(Line::Remove { element, separator })
 }
 

@@ -2,10 +2,10 @@
 #![tactic(auto)]
 
 ghost use Rattle.std.specs.Prelude.{◌≡◌, ◌≤◌, ◌<◌};
-ghost use Rattle.syned_run.specs.Bytes.{AnswersInto, ExplainsInto};
+ghost use Rattle.syned_run.specs.Bytes.{AnswersInto, AnswersIntoFor, ExplainsInto, ExplainsIntoFor};
 
 use std::alloc::Global;
-use syned_run::{answer_into, explain_into};
+use syned_run::{Dialect, answer_into_for, explain_into_for};
 
 /// Carries out a script and puts the answer at the beginning of `room`, if it fits. What it gives is the exit status of `syned`, and `length`
 /// is how many bytes the answer has, whether it fits or not: 0 for status 3. Nothing is kept between two calls.
@@ -19,9 +19,7 @@ pub extern "C" fn syned_run(alloc: Global, script: &[u8], room: &mut [u8], lengt
     ensures failed { result ≡ 3 → length.new ≡ 0 }
     ensures failed_room { result ≡ 3 → room.new ≡ room.old }
 {
-    let outcome = answer_into(alloc, script, room);
-    *length = outcome.length;
-    outcome.status
+    run(alloc, Dialect::Syned, script, room, length)
 }
 
 /// Puts why a script has no edit at the beginning of `room`, if it fits: the line that `syned` prints on the standard error, without its newline.
@@ -34,5 +32,40 @@ pub extern "C" fn syned_run(alloc: Global, script: &[u8], room: &mut [u8], lengt
 pub extern "C" fn syned_explain(alloc: Global, script: &[u8], room: &mut [u8]) -> usize
     ensures { ExplainsInto script.now result room.old room.new }
 {
-    explain_into(alloc, script, room)
+    explain_into_for(alloc, Dialect::Syned, script, room)
+}
+
+/// `syned_run` of a script of the wide dialect, with the same parameters.
+#[unsafe(no_mangle)]
+pub extern "C" fn syned_run_wide(
+    alloc: Global,
+    script: &[u8],
+    room: &mut [u8],
+    length: &mut usize,
+) -> u8
+    ensures status { result ≤ 3 }
+    ensures answered { result < 3 → AnswersIntoFor Dialect.Wide script.now result length.new room.old room.new }
+    ensures failed { result ≡ 3 → length.new ≡ 0 }
+    ensures failed_room { result ≡ 3 → room.new ≡ room.old }
+{
+    run(alloc, Dialect::Wide, script, room, length)
+}
+
+/// `syned_explain` of a script of the wide dialect, with the same parameters.
+#[unsafe(no_mangle)]
+pub extern "C" fn syned_explain_wide(alloc: Global, script: &[u8], room: &mut [u8]) -> usize
+    ensures { ExplainsIntoFor Dialect.Wide script.now result room.old room.new }
+{
+    explain_into_for(alloc, Dialect::Wide, script, room)
+}
+
+fn run(alloc: Global, dialect: Dialect, script: &[u8], room: &mut [u8], length: &mut usize) -> u8
+    ensures status { result ≤ 3 }
+    ensures answered { result < 3 → AnswersIntoFor dialect script.now result length.new room.old room.new }
+    ensures failed { result ≡ 3 → length.new ≡ 0 }
+    ensures failed_room { result ≡ 3 → room.new ≡ room.old }
+{
+    let outcome = answer_into_for(alloc, dialect, script, room);
+    *length = outcome.length;
+    outcome.status
 }

@@ -4,7 +4,7 @@ use Rattle.std.specs.Fmt.{digits}
 use Rattle.cst_core.specs.Kinds.{ARG_LIST, COMMA}
 use Rattle.script_lines.specs.Line.{fields, words}
 use Rattle.script_lines.specs.ScriptLine.{Tree, Edit, Map, First, Before, After, Insert, Delete, Replace, Range, Note, Remove}
-use Rattle.syned_run.specs.Answer.{IsAnswer}
+use Rattle.syned_run.specs.inner.SynedAnswer.{IsAnswer}
 use Rattle.syned_run.proofs.ScriptTrees.{ref, node, A, R, U, from_arguments, on_arguments, text_U, tree_U}
 use Rattle.syned_run.proofs.ScriptAnswers.{bad, unread}
 

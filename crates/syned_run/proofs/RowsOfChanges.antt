@@ -3,7 +3,7 @@ use Rattle.std.specs.Prelude.{[], ◌∷◌, ◌++◌, codes, refl}
 use Rattle.std.specs.Fmt.{digits}
 use Rattle.script_lines.specs.Line.{fields, words}
 use Rattle.script_lines.specs.ScriptLine.{Tree, First, Last, Before, After, Insert, Delete, Replace, Range}
-use Rattle.syned_run.specs.Answer.{IsAnswer}
+use Rattle.syned_run.specs.inner.SynedAnswer.{IsAnswer}
 use Rattle.syned_run.proofs.ScriptTrees.{ref, literal, R, U, V, X, Y, from_arguments, on_arguments, text_U, text_V, text_X, text_Y, tree_U, tree_V, tree_X, tree_Y}
 use Rattle.syned_run.proofs.ScriptAnswers.{edited}
 

@@ -4,7 +4,7 @@ use Rattle.std.specs.Fmt.{digits}
 use Rattle.cst_core.specs.Kinds.{ARG_LIST, ATTR, COMMA, IDENT, LITERAL, NAME}
 use Rattle.script_lines.specs.Line.{fields, words}
 use Rattle.script_lines.specs.ScriptLine.{Blank, Tree, Edit, Replace}
-use Rattle.syned_run.specs.Answer.{IsAnswer}
+use Rattle.syned_run.specs.inner.SynedAnswer.{IsAnswer}
 use Rattle.syned_run.proofs.ScriptTrees.{ref, node, token, literal, A, R, U, V, X, Y, from_arguments, on_arguments, text_A, text_U, text_V, text_X, text_Y, tree_A, tree_U, tree_V, tree_X, tree_Y}
 use Rattle.syned_run.proofs.ScriptAnswers.{edited}
 

@@ -9,7 +9,7 @@ use Rattle.syned_script.specs.declared.refusal.Refusal.TheVariants as refusal
 use Rattle.syned_run.proofs.ScriptEdits.{no_places}
 use Rattle.syned_run.proofs.ScriptOrders.{edited_by}
 use Rattle.syned_run.proofs.ScriptPlaces.{address, placed, edited_at}
-use Rattle.syned_run.specs.Answer.{IsAnswer}
+use Rattle.syned_run.specs.inner.SynedAnswer.{IsAnswer}
 use Rattle.syned_run.proofs.ScriptTrees.{ref, node, token, A, R, U, X, Y, text_U, text_X, text_Y, tree_A, tree_U, tree_X, tree_Y}
 use Rattle.syned_run.proofs.ScriptAnswers.{edited, not_carried_out}
 

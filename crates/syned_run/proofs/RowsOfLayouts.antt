@@ -8,7 +8,7 @@ use Rattle.cst_core.specs.Tree.{SyntaxTree}
 use Rattle.std.specs.Char.{encode_utf8}
 use Rattle.std.specs.Str.{is_utf8, chars}
 use Rattle.syned_run.proofs.ScriptOrders.{edited_by}
-use Rattle.syned_run.specs.Answer.{IsAnswer}
+use Rattle.syned_run.specs.inner.SynedAnswer.{IsAnswer}
 use Rattle.syned_run.proofs.ScriptTrees.{node, token, A, R, X, Y, from_arguments, on_arguments, text_U, text_X, text_Y, tree_U, tree_X, tree_Y}
 use Rattle.syned_run.proofs.ScriptAnswers.{edited}
 

@@ -10,7 +10,7 @@ use Rattle.syntax_editor.specs.declared.error.RecordError.TheVariants.{DeletesRo
 use Rattle.syned_script.specs.declared.refusal.Refusal.TheVariants as refusal
 use Rattle.syned_run.proofs.ScriptEdits.{no_places}
 use Rattle.syned_run.proofs.ScriptPlaces.{address, placed, edited_at, unmapped, stays, differ, not_placed}
-use Rattle.syned_run.specs.Answer.{IsAnswer}
+use Rattle.syned_run.specs.inner.SynedAnswer.{IsAnswer}
 use Rattle.syned_run.proofs.ScriptTrees.{ref, node, token, literal, A, N, R, V, X, Y, from_arguments, on_arguments, text_N, text_V, text_X, text_Y, tree_N, tree_V, tree_X, tree_Y}
 use Rattle.syned_run.proofs.ScriptAnswers.{edited, refused}
 

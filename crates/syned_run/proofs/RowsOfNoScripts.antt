@@ -6,7 +6,8 @@ use Rattle.std.specs.Str.{is_utf8, chars}
 use Rattle.std.proofs.Common.{sym, ◌∙◌, inl, inr}
 use Rattle.std.proofs.lemmas.Bool.{false≢true}
 use Rattle.std.proofs.lemmas.Str.{is_utf8-from_IsUtf8}
-use Rattle.syned_run.specs.Answer.{IsAnswer, bad_text}
+use Rattle.syned_run.specs.Answer.{bad_text}
+use Rattle.syned_run.specs.inner.SynedAnswer.{IsAnswer}
 use Rattle.syned_run.proofs.ScriptTrees.{text_U, on_arguments}
 
 no_text : (bytes : List ℕ) → is_utf8 bytes ≡ false → IsAnswer bytes 2 (bad_text 0)

@@ -4,7 +4,7 @@ use Rattle.std.specs.Fmt.{digits}
 use Rattle.cst_core.specs.Kinds.{COMMA, SEMICOLON, WHITESPACE}
 use Rattle.script_lines.specs.Line.{fields, words}
 use Rattle.script_lines.specs.ScriptLine.{First, After, Insert, Delete, Replace, Note, Remove}
-use Rattle.syned_run.specs.Answer.{IsAnswer}
+use Rattle.syned_run.specs.inner.SynedAnswer.{IsAnswer}
 use Rattle.syned_run.proofs.ScriptTrees.{R, X, from_arguments, on_arguments, text_X, tree_X}
 use Rattle.syned_run.proofs.ScriptAnswers.{edited}
 

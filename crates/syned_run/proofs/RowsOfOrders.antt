@@ -4,7 +4,7 @@ use Rattle.std.specs.Fmt.{digits}
 use Rattle.script_lines.specs.Line.{fields, words}
 use Rattle.script_lines.specs.ScriptLine.{Last, Before, After, Insert, Delete, Replace, Order}
 use Rattle.syned_run.proofs.ScriptOrders.{edited_by, not_each_once, gap_out_of_order, token_too_early}
-use Rattle.syned_run.specs.Answer.{IsAnswer}
+use Rattle.syned_run.specs.inner.SynedAnswer.{IsAnswer}
 use Rattle.syned_run.proofs.ScriptTrees.{R, X, Y, from_arguments, on_arguments, text_X, text_Y, tree_X, tree_Y}
 
 two_inserts_of_one_gap_the_last_one_first : IsAnswer (on_arguments (text_X ++ text_Y ++ codes "insert after R/0 X/0\ninsert after R/0 Y/0\norder 1 0\nfinish\n")) 0 (codes "text \"(xy1, 2)\"\nchanged 1 2\n")

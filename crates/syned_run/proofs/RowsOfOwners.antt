@@ -6,7 +6,7 @@ use Rattle.script_lines.specs.Line.{fields, words}
 use Rattle.script_lines.specs.ScriptLine.{Tree, Edit, Map, First, Last, Before, After, Insert, Delete, Replace, Range, Note, Remove, Order}
 use Rattle.syned_run.proofs.ScriptEdits.{no_places}
 use Rattle.syned_run.proofs.ScriptPlaces.{address, placed, edited_at_by, owner_too_early}
-use Rattle.syned_run.specs.Answer.{IsAnswer}
+use Rattle.syned_run.specs.inner.SynedAnswer.{IsAnswer}
 use Rattle.syned_run.proofs.ScriptTrees.{ref, node, token, literal, A, N, R, U, from_arguments, on_arguments, text_N, text_U, tree_N, tree_U}
 
 every_word : IsAnswer (on_arguments (text_N ++ text_U ++ codes "map N R/1 N/1\nnote w R/1\nnote v R/5\ninsert first R/1 U/0\ninsert last R U/0 U\ninsert before R/1 U/0\ninsert after R/4\nreplace R/1 N\nreplace R/0 U/0 U/0\nrange R/2 R/3 U/0\ndelete R/5\nremove R/4 SEMICOLON\norder 1 2 6 0 4 5 7 8\nfinish\n")) 0 (codes "text \"___(_7)___\"\nchanged 0 1 2 3 4 5 6\nnote w 3/1\nnote v\n")

@@ -8,7 +8,7 @@ use Rattle.syntax_editor.specs.EditError.TheVariants.{Intersecting}
 use Rattle.syntax_editor.specs.MapError.TheVariants.{NotYounger, OtherShape}
 use Rattle.syntax_editor.specs.declared.error.RecordError.TheVariants.{BadRange, DeletesRoot, Foreign, RootReplacement}
 use Rattle.syned_script.specs.declared.refusal.Refusal.TheVariants as refusal
-use Rattle.syned_run.specs.Answer.{IsAnswer}
+use Rattle.syned_run.specs.inner.SynedAnswer.{IsAnswer}
 use Rattle.syned_run.proofs.ScriptTrees.{node, A, N, R, U, V, X, Y, from_arguments, on_arguments, text_A, text_N, text_U, text_V, text_X, text_Y, tree_A, tree_N, tree_U, tree_V, tree_X, tree_Y}
 use Rattle.syned_run.proofs.ScriptAnswers.{refused, not_carried_out}
 

@@ -37,16 +37,19 @@ use Rattle.script_lines.specs.Line.{is_blank}
 use Rattle.syned_script.specs.declared.refusal.Refusal.{Refusal}
 use Rattle.syned_script.specs.State.{State, new_state, Editing, Refuses, IsBad}
 use Rattle.syned_script.specs.Script.{Outcome, Edited, Refused, BadLine, Ends, LineEnds, FinishEnds, FinishGives, EndRefuses, lines_in}
-use Rattle.syned_run.specs.Ends.{script_limit}
-use Rattle.syned_run.specs.Answer.{IsNoScript, IsAnswer, printed, status_of}
+use Rattle.script_lines.specs.Dialect.{bytes_in}
+use Rattle.script_lines.specs.Line.{IsLine}
+use Rattle.script_lines.specs.declared.dialect.Dialect.TheVariants.{Syned}
+use Rattle.syned_run.specs.Answer.{IsNoScript, printed, status_of}
+use Rattle.syned_run.specs.inner.SynedAnswer.{IsAnswer}
 use Rattle.syned_run.proofs.ScriptLines.{both, reads, says}
 use Rattle.syned_run.proofs.ScriptFaults.{says_nothing, nothing-said}
-use Rattle.syned_run.proofs.ScriptRuns.{step, steps, run, all_read, runs}
+use Rattle.syned_run.proofs.ScriptRuns.{step, steps, run, all_read, runs, is_syned, syned-is, stays-syned}
 use Rattle.syned_run.proofs.ScriptEdits.{the_one, is_one, edit_of, can_make, makes, is_plan, plans, unowned, owns_nothing, no_places}
 
 -- ---- scripts
 abbrev pub is_text : List ℕ → Bool
-is_text script = (list_all (λ b. nat_lt b 128) script || is_utf8 script) && nat_le (length script) script_limit
+is_text script = (list_all (λ b. nat_lt b 128) script || is_utf8 script) && nat_le (length script) (bytes_in Syned)
 
 ascii : (bs : List ℕ) → list_all (λ b. nat_lt b 128) bs ≡ true → IsAscii bs
 ascii [] h = IsAscii-nil
@@ -58,17 +61,17 @@ text-is : (script : List ℕ) (b : Bool) → list_all (λ c. nat_lt c 128) scrip
 text-is script true is h = IsUtf8-from_ascii script (ascii script is)
 text-is script false is h = IsUtf8-from_is_utf8 script h
 
-pub script-is : (script : List ℕ) → is_text script ≡ true → IsNoScript script → ⊥
+pub script-is : (script : List ℕ) → is_text script ≡ true → IsNoScript Syned script → ⊥
 script-is script h none =
-    let parts = both (list_all (λ b. nat_lt b 128) script || is_utf8 script) (nat_le (length script) script_limit) h in
+    let parts = both (list_all (λ b. nat_lt b 128) script || is_utf8 script) (nat_le (length script) (bytes_in Syned)) h in
     elim none [
-      | inl long ↦ absurd (omega (arith, long, leb-true (length script) script_limit parts.1))
+      | inl long ↦ absurd (omega (arith, long, leb-true (length script) (bytes_in Syned) parts.1))
       | inr other ↦ other (text-is script (list_all (λ b. nat_lt b 128) script) refl parts.0)
     ]
 
 -- ---- a state and what comes of it
 abbrev pub state_after : List ScriptLine → State
-state_after ls = unwrap_or (run new_state ls) new_state
+state_after ls = unwrap_or (run (new_state Syned) ls) (new_state Syned)
 
 ran : (o : Option State) (t : State) → is_some o ≡ true → o ≡ Some (unwrap_or o t)
 ran None t h = absurd (false≢true h)
@@ -83,7 +86,13 @@ rest_of script ls = drop (length ls) (lines_in script)
 
 -- these lines are there, and are carried out
 abbrev pub begins_with : List ℕ → List ScriptLine → Bool
-begins_with script ls = is_text script && all_read (before_of script ls) ls && is_some (run new_state ls)
+begins_with script ls = is_text script && all_read (before_of script ls) ls && is_some (run (new_state Syned) ls)
+
+-- then its state is one of the dialect
+plain-after : (script : List ℕ) (ls : List ScriptLine) → begins_with script ls ≡ true → is_syned (state_after ls).language ≡ true
+plain-after script ls begins =
+    let parts = both (is_text script && all_read (before_of script ls) ls) (is_some (run (new_state Syned) ls)) begins in
+    stays-syned ls (new_state Syned) (state_after ls) refl (ran (run (new_state Syned) ls) (new_state Syned) parts.1)
 
 -- an answer, where a script ends so
 abbrev pub answered : Outcome → List ℕ → Bool
@@ -91,7 +100,7 @@ answered o answer = bytes_eq answer (printed o)
 
 pub answers : (script answer : List ℕ) (ls : List ScriptLine) (o : Outcome) → begins_with script ls ≡ true → Ends (suc (length (before_of script ls))) (state_after ls) (rest_of script ls) o → answered o answer ≡ true → IsAnswer script (status_of o) answer
 answers script answer ls o begins ends same =
-    let parts = both (is_text script && all_read (before_of script ls) ls) (is_some (run new_state ls)) begins in
+    let parts = both (is_text script && all_read (before_of script ls) ls) (is_some (run (new_state Syned) ls)) begins in
     let front = both (is_text script) (all_read (before_of script ls) ls) parts.0 in
     inr (
       script-is script front.0,
@@ -102,7 +111,7 @@ answers script answer ls o begins ends same =
           rest = rest_of script ls;
           state = state_after ls;
           is = sym (take-append-drop (length ls) (lines_in script));
-          carried = runs (before_of script ls) ls new_state (state_after ls) front.1 (ran (run new_state ls) new_state parts.1);
+          carried = runs (before_of script ls) ls (new_state Syned) (state_after ls) refl front.1 (ran (run (new_state Syned) ls) (new_state Syned) parts.1);
           ends = ends;
         },
         refl,
@@ -119,9 +128,10 @@ abbrev behind : List (List ℕ) → List (List ℕ)
 behind [] = []
 behind (text ∷ after) = after
 
-ends-at : (n : ℕ) (s : State) (l : ScriptLine) (rest : List (List ℕ)) (o : Outcome) → first_reads rest l ≡ true → LineEnds n s l (behind rest) o → Ends n s rest o
-ends-at n s l [] o reads_it ends = absurd (false≢true reads_it)
-ends-at n s l (text ∷ after) o reads_it ends = inr (l, says text l reads_it, ends)
+ends-at : (n : ℕ) (s : State) (l : ScriptLine) (rest : List (List ℕ)) (o : Outcome) → is_syned s.language ≡ true → first_reads rest l ≡ true → LineEnds n s l (behind rest) o → Ends n s rest o
+ends-at n s l [] o plain reads_it ends = absurd (false≢true reads_it)
+ends-at n s l (text ∷ after) o plain reads_it ends =
+    inr (l, subst (λ g. IsLine g text l) (sym (syned-is s.language plain)) (says text l reads_it), ends)
 
 refuses : (n : ℕ) (s : State) (l : ScriptLine) (after : List (List ℕ)) (r : Refusal) → step s l ≡ Some (Refuses r) → LineEnds n s l after (Refused r)
 refuses n s line.Finish after r is = absurd (cc)
@@ -136,24 +146,25 @@ number_of script ls = suc (length (before_of script ls))
 
 pub refused : (script answer : List ℕ) (ls : List ScriptLine) (l : ScriptLine) (r : Refusal) → begins_with script ls ≡ true → first_reads (rest_of script ls) l ≡ true → step (state_after ls) l ≡ Some (Refuses r) → answered (Refused r) answer ≡ true → IsAnswer script 1 answer
 refused script answer ls l r begins reads_it refuses_it same =
-    answers script answer ls (Refused r) begins (ends-at (number_of script ls) (state_after ls) l (rest_of script ls) (Refused r) reads_it (refuses _ (state_after ls) l (behind (rest_of script ls)) r refuses_it)) same
+    answers script answer ls (Refused r) begins (ends-at (number_of script ls) (state_after ls) l (rest_of script ls) (Refused r) (plain-after script ls begins) reads_it (refuses _ (state_after ls) l (behind (rest_of script ls)) r refuses_it)) same
 
 pub bad : (script answer : List ℕ) (ls : List ScriptLine) (l : ScriptLine) → begins_with script ls ≡ true → first_reads (rest_of script ls) l ≡ true → step (state_after ls) l ≡ Some IsBad → answered (BadLine (number_of script ls)) answer ≡ true → IsAnswer script 2 answer
 bad script answer ls l begins reads_it is same =
-    answers script answer ls (BadLine (number_of script ls)) begins (ends-at (number_of script ls) (state_after ls) l (rest_of script ls) (BadLine (number_of script ls)) reads_it (is_bad (number_of script ls) (state_after ls) l (behind (rest_of script ls)) is)) same
+    answers script answer ls (BadLine (number_of script ls)) begins (ends-at (number_of script ls) (state_after ls) l (rest_of script ls) (BadLine (number_of script ls)) (plain-after script ls begins) reads_it (is_bad (number_of script ls) (state_after ls) l (behind (rest_of script ls)) is)) same
 
 -- ---- lines that say nothing
 abbrev first_says_nothing : List (List ℕ) → Bool
 first_says_nothing [] = false
 first_says_nothing (text ∷ after) = says_nothing text
 
-not-read : (n : ℕ) (s : State) (rest : List (List ℕ)) → first_says_nothing rest ≡ true → Ends n s rest (BadLine n)
-not-read n s [] nothing = absurd (false≢true nothing)
-not-read n s (text ∷ after) nothing = inl (nothing-said text nothing, refl)
+not-read : (n : ℕ) (s : State) (rest : List (List ℕ)) → is_syned s.language ≡ true → first_says_nothing rest ≡ true → Ends n s rest (BadLine n)
+not-read n s [] plain nothing = absurd (false≢true nothing)
+not-read n s (text ∷ after) plain nothing =
+    inl (λ l said. nothing-said text nothing l (subst (λ g. IsLine g text l) (syned-is s.language plain) said), refl)
 
 pub unread : (script answer : List ℕ) (ls : List ScriptLine) → begins_with script ls ≡ true → first_says_nothing (rest_of script ls) ≡ true → answered (BadLine (number_of script ls)) answer ≡ true → IsAnswer script 2 answer
 unread script answer ls begins nothing same =
-    answers script answer ls (BadLine (number_of script ls)) begins (not-read (number_of script ls) (state_after ls) (rest_of script ls) nothing) same
+    answers script answer ls (BadLine (number_of script ls)) begins (not-read (number_of script ls) (state_after ls) (rest_of script ls) (plain-after script ls begins) nothing) same
 
 pub unfinished : (script answer : List ℕ) (ls : List ScriptLine) → begins_with script ls ≡ true → rest_of script ls ≡ [] → answered (BadLine (number_of script ls)) answer ≡ true → IsAnswer script 2 answer
 unfinished script answer ls begins none same =
@@ -165,7 +176,7 @@ too_early script answer ls begins reads_it none same =
     let n = number_of script ls in
     let ends : LineEnds n (state_after ls) line.Finish (behind (rest_of script ls)) (BadLine n) =
     subst (λ e. MatchOption e (BadLine n ≡ BadLine n) (λ e. FinishEnds n (state_after ls) e (behind (rest_of script ls)) (BadLine n))) (sym none) refl in
-    answers script answer ls (BadLine n) begins (ends-at n (state_after ls) line.Finish (rest_of script ls) (BadLine n) reads_it ends) same
+    answers script answer ls (BadLine n) begins (ends-at n (state_after ls) line.Finish (rest_of script ls) (BadLine n) (plain-after script ls begins) reads_it ends) same
 
 -- an editing, where there is one
 abbrev no_editing : Editing
@@ -194,7 +205,7 @@ too_late script answer ls begins reads_it is_begun late same =
     let o : Outcome = BadLine (late_number script ls) in
     let ends : FinishEnds n (state_after ls) (editing_after ls) (behind (rest_of script ls)) o =
     subst (λ b. MatchBool b (FinishGives (state_after ls) (editing_after ls) o) (o ≡ BadLine (late_number script ls))) (sym late) refl in
-    answers script answer ls o begins (ends-at n (state_after ls) line.Finish (rest_of script ls) o reads_it (finish-ends n (state_after ls) ls (behind (rest_of script ls)) o (there-is (state_after ls).editing no_editing is_begun) ends)) same
+    answers script answer ls o begins (ends-at n (state_after ls) line.Finish (rest_of script ls) o (plain-after script ls begins) reads_it (finish-ends n (state_after ls) ls (behind (rest_of script ls)) o (there-is (state_after ls).editing no_editing is_begun) ends)) same
 
 -- `finish` is the next line, and nothing follows it
 abbrev pub finishes : List ℕ → List ScriptLine → Bool
@@ -208,7 +219,7 @@ finished script answer ls o begins finish gives same =
     let front = both (first_reads (rest_of script ls) line.Finish) blank parts.0 in
     let ends : FinishEnds n (state_after ls) (editing_after ls) (behind (rest_of script ls)) o =
     subst (λ b. MatchBool b (FinishGives (state_after ls) (editing_after ls) o) (o ≡ BadLine (late_number script ls))) (sym front.1) gives in
-    answers script answer ls o begins (ends-at n (state_after ls) line.Finish (rest_of script ls) o front.0 (finish-ends n (state_after ls) ls (behind (rest_of script ls)) o (there-is (state_after ls).editing no_editing parts.1) ends)) same
+    answers script answer ls o begins (ends-at n (state_after ls) line.Finish (rest_of script ls) o (plain-after script ls begins) front.0 (finish-ends n (state_after ls) ls (behind (rest_of script ls)) o (there-is (state_after ls).editing no_editing parts.1) ends)) same
 
 abbrev pub plan_after : List ScriptLine → Plan
 plan_after ls = plan_of (editing_after ls).editor

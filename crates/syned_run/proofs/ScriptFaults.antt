@@ -23,9 +23,9 @@ use Rattle.tree_text.specs.KindNames.{name_in}
 use Rattle.tree_text.specs.KindNames as kinds
 use Rattle.script_lines.specs.Name.{IsName, starts_with_letter}
 use Rattle.script_lines.specs.Name as names
-use Rattle.script_lines.specs.ScriptLine.{Ref, Gap, First, Last, Before, After, ScriptLine, Blank, Tree, Edit, Map, Insert, Delete, Replace, Range, Note, Remove, Order, Finish}
+use Rattle.script_lines.specs.ScriptLine.{Ref, Gap, First, Last, Before, After, ScriptLine, Blank, Kinds, Tree, Edit, Map, Insert, Delete, Replace, Range, Note, Remove, Order, Finish}
 use Rattle.script_lines.specs.Line.{line_text, between, fields, is_comment, no_command, Each, IsNumber, IsRef, IsGap, IsSpaces, IsTreeLine, IsLine}
-use Rattle.syned_run.proofs.ScriptLines.{both, is_name, is_digit, is_numeral}
+use Rattle.syned_run.proofs.ScriptLines.{both, syned, is_name, is_digit, is_numeral}
 use Rattle.syned_run.proofs.ScriptRuns.{true-and}
 
 -- ---- fields
@@ -244,7 +244,7 @@ apart : (a b : List ℕ) → begins_with_name_byte a ≡ false → begins_with_n
 apart [] b ends = refl
 apart (x ∷ a) b ends = ends
 
-tree-passes : (text name : List ℕ) (root : SyntaxTree) → IsTreeLine text name root → maybe_tree (line_text text) ≡ true
+tree-passes : (text name : List ℕ) (root : SyntaxTree) → IsTreeLine syned text name root → maybe_tree (line_text text) ≡ true
 tree-passes text name root is =
     let e = written root is.expression is.drawn.0 in
     let before = is.before ++ codes "tree" ++ is.between ++ name ++ is.after in
@@ -281,7 +281,8 @@ gap-passes word f fs (Last r) is all = true-and (is_place word && maybe_ref f) _
 gap-passes word f fs (Before r) is all = true-and (is_place word && maybe_ref f) _ (true-and (is_place word) (maybe_ref f) (ap is_place is.0) (ref-passes f r is.1)) all
 gap-passes word f fs (After r) is all = true-and (is_place word && maybe_ref f) _ (true-and (is_place word) (maybe_ref f) (ap is_place is.0) (ref-passes f r is.1)) all
 
-unsaid : (text : List ℕ) → not (maybe_fields (fields text)) ≡ true → not (maybe_tree (line_text text)) ≡ true → (l : ScriptLine) → IsLine text l → ⊥
+unsaid : (text : List ℕ) → not (maybe_fields (fields text)) ≡ true → not (maybe_tree (line_text text)) ≡ true → (l : ScriptLine) → IsLine syned text l → ⊥
+unsaid text h t (Kinds names) said = false≢true said.0
 unsaid text h t Blank said = refuted (fields text) (fields text) h refl (blank-passes (fields text) said)
 unsaid text h t (Tree name root) said = false≢true (sym (ap not (tree-passes text name root said)) ∙ t)
 unsaid text h t (Edit name node) said = refuted (fields text) _ h said.1 (true-and (is_name name) (maybe_ref said.0) (name-passes name said.2) (ref-passes said.0 node said.3))
@@ -295,11 +296,11 @@ unsaid text h t (Range first last payload) said =
     refuted (fields text) _ h said.3 (true-and (maybe_ref said.0 && maybe_ref said.1) (list_all maybe_ref said.2) (true-and (maybe_ref said.0) (maybe_ref said.1) (ref-passes said.0 first said.4) (ref-passes said.1 last said.5)) (refs-pass said.2 payload said.6))
 unsaid text h t (Note word element) said = refuted (fields text) _ h said.1 (true-and (is_name word) (maybe_ref said.0) (name-passes word said.2) (ref-passes said.0 element said.3))
 unsaid text h t (Remove element separator) said =
-    refuted (fields text) _ h said.2 (true-and (maybe_ref said.0) (maybe_kind said.1) (ref-passes said.0 element said.3) (kind-passes separator.0 said.1 said.4))
+    refuted (fields text) _ h said.2 (true-and (maybe_ref said.0) (maybe_kind said.1) (ref-passes said.0 element said.3) (kind-passes separator.0 said.1 (own-name (name_of separator.0) said.1 said.4)))
 unsaid text h t (Order order) said = refuted (fields text) _ h said.1 (numbers-pass said.0 order said.2)
 unsaid text h t Finish said = refuted (fields text) _ h said refl
 
-pub nothing-said : (text : List ℕ) → says_nothing text ≡ true → (l : ScriptLine) → IsLine text l → ⊥
+pub nothing-said : (text : List ℕ) → says_nothing text ≡ true → (l : ScriptLine) → IsLine syned text l → ⊥
 nothing-said text h =
     let parts = both (not (maybe_fields (fields text))) (not (maybe_tree (line_text text))) h in
     unsaid text parts.0 parts.1

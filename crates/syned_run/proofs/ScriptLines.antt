@@ -8,7 +8,7 @@
 --     begins                fields are these words, and for these references
 --     past_line, is_drawn   what is left behind a line for a new tree; its tree is one that a line may have
 --     reads                 a text says this line
---     says                  where the test holds, it does
+--     says                  where the test holds, it does, in the dialect `Syned`
 use Rattle.std.specs.Prelude.{◌≡◌, ℕ, ◌^◌, Bool, true, false, not, ◌&&◌, List, [], ◌∷◌, ◌++◌, length, Option, Some, None, option_map, option_and_then, codes, bytes_eq, nat_eq, nat_le, nat_lt, refl}
 use Rattle.std.specs.List.{list_all}
 use Rattle.std.specs.Char.{digit_value}
@@ -19,11 +19,13 @@ use Rattle.std.proofs.lemmas.List.{append_assoc, append-nil}
 use Rattle.std.proofs.lemmas.List.Sums.{AllPass-from_list_all}
 use Rattle.std.proofs.lemmas.Slice.Eq.{bytes_eq-Decides}
 use Rattle.cst_core.specs.Tree.{SyntaxTree, Token, Node, is_token}
-use Rattle.cst_core.specs.Kind.{name_of}
 use Rattle.tree_text.specs.Depth.{depth, depth_limit}
 use Rattle.tree_text.specs.Grammar.{IsExactly}
+use Rattle.tree_text.specs.KindNames.{name_in}
+use Rattle.script_lines.specs.Dialect.{Language, new_language}
+use Rattle.script_lines.specs.declared.dialect.Dialect.TheVariants.{Syned}
 use Rattle.script_lines.specs.Name.{IsName, is_name_byte, starts_with_letter}
-use Rattle.script_lines.specs.ScriptLine.{Ref, Gap, First, Last, Before, After, ScriptLine, Blank, Tree, Edit, Map, Insert, Delete, Replace, Range, Note, Remove, Order, Finish}
+use Rattle.script_lines.specs.ScriptLine.{Ref, Gap, First, Last, Before, After, ScriptLine, Blank, Kinds, Tree, Edit, Map, Insert, Delete, Replace, Range, Note, Remove, Order, Finish}
 use Rattle.script_lines.specs.Line.{line_text, between, fields, is_blank, Each, IsNumber, IsRef, IsGap, IsTreeLine, IsLine}
 use Rattle.syned_run.proofs.ScriptExpressions.{Past, past_text, text-past, past_gap, gap-past, past_spaces, spaces-past, past_tree, tree-past, both-there}
 
@@ -172,6 +174,10 @@ more [] r rs h = absurd h
 more (f ∷ fs) r rs h = (f, fs, refl, h.0, h.1)
 
 -- ---- lines
+-- scripts of the dialect `Syned` are read so
+abbrev pub syned : Language
+syned = new_language Syned
+
 abbrev pub is_drawn : SyntaxTree → Bool
 is_drawn root = not (is_token root) && nat_le (depth root) depth_limit
 
@@ -198,6 +204,7 @@ orders (w ∷ fs) order = bytes_eq w (codes "order") && all_numbers fs order
 
 abbrev pub reads : List ℕ → ScriptLine → Bool
 reads text Blank = is_blank text
+reads text (Kinds names) = false
 reads text (Tree name root) = is_past (past_line name root (line_text text)) && is_name name && is_drawn root
 reads text (Edit name node) = begins (fields text) (codes "edit" ∷ name ∷ []) (node ∷ []) && is_name name
 reads text (Map parent input output) = begins (fields text) (codes "map" ∷ []) (parent ∷ input ∷ output ∷ [])
@@ -206,7 +213,7 @@ reads text (Delete target) = begins (fields text) (codes "delete" ∷ []) (targe
 reads text (Replace target payload) = begins (fields text) (codes "replace" ∷ []) (target ∷ payload)
 reads text (Range first last payload) = begins (fields text) (codes "range" ∷ []) (first ∷ last ∷ payload)
 reads text (Note word element) = begins (fields text) (codes "note" ∷ word ∷ []) (element ∷ []) && is_name word
-reads text (Remove element separator) = removes (fields text) element (name_of separator.0)
+reads text (Remove element separator) = removes (fields text) element (name_in [] separator.0)
 reads text (Order order) = orders (fields text) order
 reads text Finish = same_fields (fields text) (codes "finish" ∷ [])
 
@@ -236,7 +243,7 @@ exact s w r p = p.is ∙ ap (λ x. x ++ r) p.says
 to-end : {P : List ℕ → Type 0} (w r : List ℕ) (p : Past P w r) → r ≡ [] → w ≡ p.front ++ []
 to-end w r p none = p.is ∙ ap (λ x. p.front ++ x) none
 
-drawn : (text name : List ℕ) (root : SyntaxTree) → past_line name root (line_text text) ≡ Some [] → IsName name → is_drawn root ≡ true → IsTreeLine text name root
+drawn : (text name : List ℕ) (root : SyntaxTree) → past_line name root (line_text text) ≡ Some [] → IsName name → is_drawn root ≡ true → IsTreeLine syned text name root
 drawn text name root past spelled h =
     let parts = both (not (is_token root)) (nat_le (depth root) depth_limit) h in
     let w = line_text text in
@@ -291,8 +298,9 @@ ordered (w ∷ fs) order h =
     (fs, ap (λ x. x ∷ fs) ((bytes_eq-Decides w (codes "order")).0 parts.0), numbers fs order parts.1)
 
 -- ---- what a text says
-pub says : (text : List ℕ) (l : ScriptLine) → reads text l ≡ true → IsLine text l
+pub says : (text : List ℕ) (l : ScriptLine) → reads text l ≡ true → IsLine syned text l
 says text Blank h = h
+says text (Kinds names) h = absurd (false≢true h)
 says text (Tree name root) h =
     let parts = both (is_past (past_line name root (line_text text)) && is_name name) (is_drawn root) h in
     let front = both (is_past (past_line name root (line_text text))) (is_name name) parts.0 in
@@ -331,7 +339,7 @@ says text (Note word element) h =
     let o = one b.others element b.are in
     (o.0, b.is ∙ ap (λ fs. codes "note" ∷ word ∷ fs) o.1, named word parts.1, o.2)
 says text (Remove element separator) h =
-    let r = removed (fields text) element (name_of separator.0) h in
+    let r = removed (fields text) element (name_in [] separator.0) h in
     (r.field, r.kind, r.is, r.referred, r.is_kind)
 says text (Order order) h = ordered (fields text) order h
 says text Finish h = fields-same _ _ h

@@ -20,7 +20,7 @@ use Rattle.script_lines.specs.ScriptLine.{ScriptLine}
 use Rattle.syned_script.specs.declared.refusal.Refusal.{Refusal}
 use Rattle.syned_script.specs.declared.refusal.Refusal.TheVariants as refused
 use Rattle.syned_script.specs.Script.{Refused, EndRefuses}
-use Rattle.syned_run.specs.Answer.{IsAnswer}
+use Rattle.syned_run.specs.inner.SynedAnswer.{IsAnswer}
 use Rattle.syned_run.proofs.ScriptLines.{both}
 use Rattle.syned_run.proofs.ScriptEdits.{is_plan, plans, unowned, owns_nothing, no_places}
 use Rattle.syned_run.proofs.ScriptAnswers.{begins_with, finishes, answered, editing_after, plan_after, state_after, edit_after, can_carry_out, edited_with, not_carried_out}

@@ -26,7 +26,7 @@ use Rattle.syntax_editor.specs.Places.{ArePlaces, FindsPlace, IsUnplaced, IsFirs
 use Rattle.script_lines.specs.ScriptLine.{ScriptLine}
 use Rattle.syned_script.specs.declared.refusal.Refusal.TheVariants as refused
 use Rattle.syned_script.specs.Script.{Refused, EndRefuses}
-use Rattle.syned_run.specs.Answer.{IsAnswer}
+use Rattle.syned_run.specs.inner.SynedAnswer.{IsAnswer}
 use Rattle.syned_run.proofs.ScriptLines.{both}
 use Rattle.syned_run.proofs.ScriptEdits.{owns_nothing_in, is_plan, plans}
 use Rattle.syned_run.proofs.ScriptAnswers.{begins_with, finishes, answered, editing_after, plan_after, state_after, edit_after, can_carry_out, edited_with, no-order, not_carried_out}

@@ -5,7 +5,8 @@
 --     map_step              what a pair does below a parent
 --     step                  what a line does; nothing is said of `finish`
 --     steps                 it does that
---     run                   the state after lines that all go on
+--     is_syned              a language of the dialect `Syned`
+--     run                   the state after lines that all go on, in this dialect
 --     runs                  they are carried out
 use Rattle.std.specs.Prelude.{◌≡◌, ℕ, Bool, true, false, not, ◌&&◌, cond, List, [], ◌∷◌, All, MatchOption, Option, Some, None, option_map, option_and_then, unwrap_or, bytes_eq, nat_le, nat_eq, Contains, refl, filter, find, suc}
 use Rattle.std.specs.Option.{option_map_or}
@@ -21,12 +22,17 @@ use Rattle.syntax_editor.specs.Builder.{SameCopies, IsPair}
 use Rattle.syntax_editor.specs.MapError.{MapError}
 use Rattle.syntax_editor.specs.MapError.TheVariants as map_error
 use Rattle.syntax_editor.specs.Editor.{Editor, Maps}
+use Rattle.tree_text.specs.KindNames.{KindName}
+use Rattle.script_lines.specs.Dialect.{Language}
+use Rattle.script_lines.specs.declared.dialect.Dialect.{Dialect}
+use Rattle.script_lines.specs.declared.dialect.Dialect.TheVariants.{Syned, Wide}
+use Rattle.script_lines.specs.Line.{IsLine}
 use Rattle.script_lines.specs.ScriptLine as line
 use Rattle.script_lines.specs.ScriptLine.{ScriptLine}
 use Rattle.syned_script.specs.declared.refusal.Refusal.TheVariants as refused
 use Rattle.syned_script.specs.State.{State, Editing, Step, Goes, Refuses, IsBad, Steps, PairStep, MapStep, with_editor, tree_step, edit_step, note_step, order_step, recorded_in, call_in, node_in, element_in}
 use Rattle.syned_script.specs.Script.{Carried}
-use Rattle.syned_run.proofs.ScriptLines.{both, reads, says}
+use Rattle.syned_run.proofs.ScriptLines.{both, reads, says, syned}
 
 -- ---- equal trees
 abbrev mutual
@@ -212,6 +218,7 @@ step s (line.Edit name node) = Some (edit_step s name (node_in s.roots node))
 step s (line.Map parent input output) = map_step s (node_in s.roots parent) (node_in s.roots input) (node_in s.roots output)
 step s (line.Note word element) = Some (note_step s word (element_in s.roots element))
 step s (line.Order order) = Some (order_step s order)
+step s (line.Kinds names) = None
 step s line.Finish = None
 step s call = Some (recorded_in s (call_in s.roots call))
 
@@ -225,12 +232,33 @@ map-steps s parent input output x is = some-same _ x is
 
 pub steps : (s : State) (l : ScriptLine) (x : Step) → step s l ≡ Some x → Steps s l x
 steps s (line.Map parent input output) x is = map-steps s (node_in s.roots parent) (node_in s.roots input) (node_in s.roots output) x is
+steps s (line.Kinds names) x is = absurd (cc)
 steps s line.Finish x is = absurd (cc)
 steps s l x is = some-same _ x is
 
+-- ---- the language
+abbrev is_nil : List KindName → Bool
+is_nil [] = true
+is_nil (k ∷ ks) = false
+
+abbrev is_plain : Dialect → List KindName → Bool
+is_plain Syned kinds = is_nil kinds
+is_plain Wide kinds = false
+
+abbrev pub is_syned : Language → Bool
+is_syned l = is_plain l.dialect l.kinds
+
+plain-is : (d : Dialect) (kinds : List KindName) → is_plain d kinds ≡ true → record { dialect = d; kinds = kinds } ≡ syned
+plain-is Syned [] h = refl
+plain-is Syned (k ∷ ks) h = absurd (false≢true h)
+plain-is Wide kinds h = absurd (false≢true h)
+
+pub syned-is : (l : Language) → is_syned l ≡ true → l ≡ syned
+syned-is l h = plain-is l.dialect l.kinds h
+
 -- ---- lines
 abbrev to_state : Option Step → Option State
-to_state (Some (Goes t)) = Some t
+to_state (Some (Goes t)) = cond (is_syned t.language) (Some t) None
 to_state _ = None
 
 abbrev pub run : State → List ScriptLine → Option State
@@ -246,19 +274,29 @@ all_read (text ∷ texts) (l ∷ ls) = reads text l && all_read texts ls
 record Went (o : Option Step) (f : State → Option State) (t : State) : Type 0 where
   pub next : State
   pub is : o ≡ Some (Goes next)
+  pub plain : is_syned next.language ≡ true
   pub rest : f next ≡ Some t
+
+went-at : (b : Bool) (next : State) (f : State → Option State) (t : State) → is_syned next.language ≡ b → option_and_then f (cond b (Some next) None) ≡ Some t → Went (Some (Goes next)) f t
+went-at true next f t plain is = record { next = next; is = refl; plain = plain; rest = is }
+went-at false next f t plain is = absurd (cc)
 
 went : (o : Option Step) (f : State → Option State) (t : State) → option_and_then f (to_state o) ≡ Some t → Went o f t
 went None f t is = absurd (cc)
-went (Some (Goes next)) f t is = record { next = next; is = refl; rest = is }
+went (Some (Goes next)) f t is = went-at (is_syned next.language) next f t refl is
 went (Some (Refuses r)) f t is = absurd (cc)
 went (Some IsBad) f t is = absurd (cc)
 
-pub runs : (texts : List (List ℕ)) (ls : List ScriptLine) (s t : State) → all_read texts ls ≡ true → run s ls ≡ Some t → Carried texts s t
-runs [] [] s t read is = some-same s t is
-runs [] (l ∷ ls) s t read is = absurd (false≢true read)
-runs (text ∷ texts) [] s t read is = absurd (false≢true read)
-runs (text ∷ texts) (l ∷ ls) s t read is =
+pub runs : (texts : List (List ℕ)) (ls : List ScriptLine) (s t : State) → is_syned s.language ≡ true → all_read texts ls ≡ true → run s ls ≡ Some t → Carried texts s t
+runs [] [] s t plain read is = some-same s t is
+runs [] (l ∷ ls) s t plain read is = absurd (false≢true read)
+runs (text ∷ texts) [] s t plain read is = absurd (false≢true read)
+runs (text ∷ texts) (l ∷ ls) s t plain read is =
     let parts = both (reads text l) (all_read texts ls) read in
     let on = went (step s l) (λ u. run u ls) t is in
-    (l, on.next, says text l parts.0, steps s l (Goes on.next) on.is, runs texts ls on.next t parts.1 on.rest)
+    let said = subst (λ g. IsLine g text l) (sym (syned-is s.language plain)) (says text l parts.0) in
+    (l, on.next, said, steps s l (Goes on.next) on.is, runs texts ls on.next t on.plain parts.1 on.rest)
+
+pub stays-syned : (ls : List ScriptLine) (s t : State) → is_syned s.language ≡ true → run s ls ≡ Some t → is_syned t.language ≡ true
+stays-syned [] s t plain is = ap (λ x. is_syned x.language) (some-same s t is) ∙ plain
+stays-syned (l ∷ ls) s t plain is = let on = went (step s l) (λ u. run u ls) t is in stays-syned ls on.next t on.plain on.rest

@@ -10,12 +10,13 @@
 --     refused_text, bad_text        The line of what a refusal prints; that of a bad script, with the number of the bad line.
 --     status_of, printed            The exit status of a script that ends so: 0 for an edit, 1 for a refusal, 2 for a bad line; what is
 --                                   printed.
---     IsNoScript                    Bytes that are too many for a script, or not UTF-8.
---     IsOutcome                     A script ends (`Means`) so that a run has this status, and prints this.
---     IsAnswer                      The same of bytes that may be no script; those are bad in line 0.
---     IsAnswerOf                    `IsAnswer`, for the script that a run took from a reader: its first bytes, by `IsFrontOf`.
---     Answers                       A run read its script and wrote all of its answer.
---     WritesBeginning, Fails        A run read its script and wrote a beginning of an answer; it did, or wrote nothing.
+--     IsNoScript                    Bytes that are too many for a script of a dialect, or not UTF-8.
+--     IsOutcome                     A script of a dialect ends (`MeansFor`) so that a run has this status, and prints this.
+--     IsAnswerFor                   The same of bytes that may be no script; those are bad in line 0.
+--     IsAnswerOf                    `IsAnswerFor`, for the script that a run took from a reader: its first bytes, by `IsFrontOf`.
+--     AnswersFor, Answers           A run read its script and wrote all of its answer; in `Syned`.
+--     WritesBeginning               A run read its script and wrote a beginning of an answer.
+--     FailsFor, Fails               It did, or wrote nothing; in `Syned`.
 --
 -- The script of 'syned_script: State' has the status 0 and the answer `text "(_)"` and `changed 1`: the new text is that
 -- of the new root, `1` the path of the one changed element, and no word was used. With `delete R` in its line 4 the
@@ -33,8 +34,11 @@ use Rattle.syntax_editor.specs.PlanText.{path_text}
 use Rattle.tree_text.specs.Escape.{escaped}
 use Rattle.syned_script.specs.RefusalText.{refusal_text}
 use Rattle.syned_script.specs.State.{annotation_of}
-use Rattle.syned_script.specs.Script.{Outcome, Edited, Refused, BadLine, Means}
-use Rattle.syned_run.specs.Ends.{IsFrontOf, script_limit}
+use Rattle.syned_script.specs.Script.{Outcome, Edited, Refused, BadLine, MeansFor}
+use Rattle.script_lines.specs.Dialect.{bytes_in}
+use Rattle.script_lines.specs.declared.dialect.Dialect.{Dialect}
+use Rattle.script_lines.specs.declared.dialect.Dialect.TheVariants.{Syned}
+use Rattle.syned_run.specs.Ends.{IsFrontOf}
 
 abbrev pub spaced : Path → List ℕ
 spaced path = codes " " ++ path_text path
@@ -79,31 +83,40 @@ printed (Edited edit words) = edit_text (text (subtree edit.new_root)) (paths_of
 printed (Refused reason) = refused_text (refusal_text reason)
 printed (BadLine number) = bad_text number
 
-abbrev pub IsNoScript : List ℕ → Type 0
-IsNoScript bytes = (script_limit < length bytes) ⊎ ¬ (IsUtf8 bytes)
+abbrev pub IsNoScript : Dialect → List ℕ → Type 0
+IsNoScript d bytes = (bytes_in d < length bytes) ⊎ ¬ (IsUtf8 bytes)
 
-abbrev pub IsOutcome : List ℕ → ℕ → List ℕ → Type 0
-IsOutcome script status answer = (o : Outcome) × Means script o × (status ≡ status_of o) × (answer ≡ printed o)
+abbrev pub IsOutcome : Dialect → List ℕ → ℕ → List ℕ → Type 0
+IsOutcome d script status answer = (o : Outcome) × MeansFor d script o × (status ≡ status_of o) × (answer ≡ printed o)
 
-abbrev pub IsAnswer : List ℕ → ℕ → List ℕ → Type 0
-IsAnswer bytes status answer =
-    (IsNoScript bytes × (status ≡ 2) × (answer ≡ bad_text 0)) ⊎ ((IsNoScript bytes → ⊥) × IsOutcome bytes status answer)
+abbrev pub IsAnswerFor : Dialect → List ℕ → ℕ → List ℕ → Type 0
+IsAnswerFor d bytes status answer =
+    (IsNoScript d bytes × (status ≡ 2) × (answer ≡ bad_text 0))
+    ⊎ ((IsNoScript d bytes → ⊥) × IsOutcome d bytes status answer)
 
-abbrev pub IsAnswerOf : Option (List ℕ) → Option (List ℕ) → ℕ → List ℕ → Type 0
-IsAnswerOf left left' status bytes =
-    (script : List ℕ) × Consumes left left' script × IsFrontOf left (script_limit + 1) script
-    × IsAnswer script status bytes
+abbrev pub IsAnswerOf : Dialect → Option (List ℕ) → Option (List ℕ) → ℕ → List ℕ → Type 0
+IsAnswerOf d left left' status bytes =
+    (script : List ℕ) × Consumes left left' script × IsFrontOf left (bytes_in d + 1) script
+    × IsAnswerFor d script status bytes
+
+abbrev pub AnswersFor : {R W : Type 0} → Dialect → (R → Option (List ℕ)) → (W → Option (List ℕ)) → R → R → W → W → ℕ → Type 0
+AnswersFor d remaining contents reader reader' writer writer' status =
+    (bytes : List ℕ) × IsAnswerOf d (remaining reader) (remaining reader') status bytes
+    × Appends (contents writer) (contents writer') bytes
 
 abbrev pub Answers : {R W : Type 0} → (R → Option (List ℕ)) → (W → Option (List ℕ)) → R → R → W → W → ℕ → Type 0
 Answers remaining contents reader reader' writer writer' status =
-    (bytes : List ℕ) × IsAnswerOf (remaining reader) (remaining reader') status bytes
-    × Appends (contents writer) (contents writer') bytes
+    AnswersFor Syned remaining contents reader reader' writer writer' status
 
-abbrev pub WritesBeginning : {R W : Type 0} → (R → Option (List ℕ)) → (W → Option (List ℕ)) → R → R → W → W → Type 0
-WritesBeginning remaining contents reader reader' writer writer' =
-    (status : ℕ) × (bytes : List ℕ) × IsAnswerOf (remaining reader) (remaining reader') status bytes
+abbrev pub WritesBeginning : {R W : Type 0} → Dialect → (R → Option (List ℕ)) → (W → Option (List ℕ)) → R → R → W → W → Type 0
+WritesBeginning d remaining contents reader reader' writer writer' =
+    (status : ℕ) × (bytes : List ℕ) × IsAnswerOf d (remaining reader) (remaining reader') status bytes
     × (n : ℕ) × Appends (contents writer) (contents writer') (take n bytes)
+
+abbrev pub FailsFor : {R W : Type 0} → Dialect → (R → Option (List ℕ)) → (W → Option (List ℕ)) → R → R → W → W → Type 0
+FailsFor d remaining contents reader reader' writer writer' =
+    Keeps (contents writer) (contents writer') ⊎ WritesBeginning d remaining contents reader reader' writer writer'
 
 abbrev pub Fails : {R W : Type 0} → (R → Option (List ℕ)) → (W → Option (List ℕ)) → R → R → W → W → Type 0
 Fails remaining contents reader reader' writer writer' =
-    Keeps (contents writer) (contents writer') ⊎ WritesBeginning remaining contents reader reader' writer writer'
+    FailsFor Syned remaining contents reader reader' writer writer'

@@ -1,5 +1,5 @@
 -- How many bytes a run takes from its reader.
---     script_limit                  How many bytes a script has at most: 1,048,576.
+--     script_limit                  How many bytes a script of the dialect `Syned` has at most: 1,048,576.
 --     IsFrontOf                     These bytes are the first n of a reader, or all if it has fewer.
 --     TakesFront, TakesAtMost       A call took the first n bytes of a reader, or all if it has fewer; it took at most n from the front.
 --

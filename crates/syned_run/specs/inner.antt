@@ -3,3 +3,4 @@ pub mod ExitCode
 pub mod Printing
 pub mod ReadOn
 pub mod Responding
+pub mod SynedAnswer

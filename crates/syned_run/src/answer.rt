@@ -3,14 +3,13 @@ ghost use Rattle.std.specs.Prelude.{◌≡◌, IfOk, string_bytes};
 ghost use Rattle.std.specs.Option.{MatchOption};
 ghost use Rattle.syned_script.specs.Script.{Edited};
 ghost use Rattle.syned_script.specs.RefusalText.{refusal_text};
-ghost use Rattle.syned_run.specs.Answer.{IsAnswer, IsNoScript, IsOutcome, printed, refused_text, bad_text};
+ghost use Rattle.syned_run.specs.Answer.{IsAnswerFor, IsNoScript, IsOutcome, printed, refused_text, bad_text};
 ghost use Rattle.syned_run.specs.inner.ExitCode.{exit_code};
 
-use crate::ends::SCRIPT_LIMIT;
 use crate::print::print_edit;
 use crate::status::Status;
 use std::alloc::{AllocError, Global};
-use syned_script::{CarriedOut, Refusal, Stop, Stopped, carry_out};
+use syned_script::{CarriedOut, Dialect, Refusal, Stop, Stopped, carry_out_for};
 
 /// What a run prints, whole, and how it ended.
 #[derive(Drop)]
@@ -20,30 +19,34 @@ pub(crate) struct Answer {
 }
 
 /// The answer to a script of these bytes.
-pub(crate) fn answer_to(alloc: Global, script: &[u8]) -> Result<Answer, AllocError>
-    ensures { IfOk result (λ a. IsAnswer script.now (exit_code a.status) (string_bytes a.text)) }
+pub(crate) fn answer_to(
+    alloc: Global,
+    dialect: Dialect,
+    script: &[u8],
+) -> Result<Answer, AllocError>
+    ensures { IfOk result (λ a. IsAnswerFor dialect script.now (exit_code a.status) (string_bytes a.text)) }
 {
-    match script_text(script) {
-        Some(text) => answer_to_text(alloc, text),
+    match script_text(dialect, script) {
+        Some(text) => answer_to_text(alloc, dialect, text),
         None => bad_script(alloc, 0),
     }
 }
 
 // The script, if it is one: text, and not too long.
-pub(crate) fn script_text(script: &[u8]) -> Option<&str>
-    ensures { MatchOption result (IsNoScript script.now)
-        (λ text. (text.now ≡ script.now) × (IsNoScript script.now → ⊥)) }
+pub(crate) fn script_text(dialect: Dialect, script: &[u8]) -> Option<&str>
+    ensures { MatchOption result (IsNoScript dialect script.now)
+        (λ text. (text.now ≡ script.now) × (IsNoScript dialect script.now → ⊥)) }
 {
-    if script.len() > SCRIPT_LIMIT {
+    if script.len() > dialect.script_limit() {
         return None;
     }
     str::from_utf8(script).ok()
 }
 
-fn answer_to_text(alloc: Global, script: &str) -> Result<Answer, AllocError>
-    ensures { IfOk result (λ a. IsOutcome script.now (exit_code a.status) (string_bytes a.text)) }
+fn answer_to_text(alloc: Global, dialect: Dialect, script: &str) -> Result<Answer, AllocError>
+    ensures { IfOk result (λ a. IsOutcome dialect script.now (exit_code a.status) (string_bytes a.text)) }
 {
-    match carry_out(alloc, script) {
+    match carry_out_for(alloc, dialect, script) {
         Ok(done) => edit_answer(alloc, &done),
         Err(Stopped { line, stop }) => match stop {
             Stop::Bad(_) => bad_script(alloc, line),

@@ -1,11 +1,12 @@
 //! A run over bytes, for callers that have a script in memory and room for its answer.
 ghost use Rattle.std.specs.Prelude.{◌≡◌, ◌≤◌, ◌<◌, length};
-ghost use Rattle.syned_run.specs.Bytes.{AnswersInto, ExplainsInto, PutsInto};
+ghost use Rattle.syned_run.specs.Bytes.{AnswersInto, AnswersIntoFor, ExplainsInto, ExplainsIntoFor, PutsInto};
 
 use crate::answer::answer_to;
-use crate::explained::explain;
+use crate::explained::explain_for;
 use crate::status::{Failure, Status};
 use std::alloc::Global;
+use syned_script::Dialect;
 
 /// How a run over bytes ended.
 #[derive(Clone, Copy, Debug, PartialEq, Eq)]
@@ -30,7 +31,18 @@ pub fn answer_into(alloc: Global, script: &[u8], room: &mut [u8]) -> Outcome
     ensures failed { result.status ≡ 3 → result.length ≡ 0 }
     ensures failed_room { result.status ≡ 3 → room.new ≡ room.old }
 {
-    let Ok(answer) = answer_to(alloc, script) else {
+    answer_into_for(alloc, Dialect::Syned, script, room)
+}
+
+/// `answer_into` of a script in a dialect.
+pub fn answer_into_for(alloc: Global, dialect: Dialect, script: &[u8], room: &mut [u8]) -> Outcome
+    ensures status { result.status ≤ 3 }
+    ensures answered { result.status < 3
+        → AnswersIntoFor dialect script.now result.status result.length room.old room.new }
+    ensures failed { result.status ≡ 3 → result.length ≡ 0 }
+    ensures failed_room { result.status ≡ 3 → room.new ≡ room.old }
+{
+    let Ok(answer) = answer_to(alloc, dialect, script) else {
         let status = Status::Failed(Failure::Memory).code();
         return Outcome { status, length: 0 };
     };
@@ -48,7 +60,14 @@ pub fn answer_into(alloc: Global, script: &[u8], room: &mut [u8]) -> Outcome
 pub fn explain_into(alloc: Global, script: &[u8], room: &mut [u8]) -> usize
     ensures { ExplainsInto script.now result room.old room.new }
 {
-    match explain(alloc, script) {
+    explain_into_for(alloc, Dialect::Syned, script, room)
+}
+
+/// `explain_into` of a script in a dialect.
+pub fn explain_into_for(alloc: Global, dialect: Dialect, script: &[u8], room: &mut [u8]) -> usize
+    ensures { ExplainsIntoFor dialect script.now result room.old room.new }
+{
+    match explain_for(alloc, dialect, script) {
         Ok(None) => 0,
         Ok(Some(reason)) => put(room, reason.as_bytes()),
         Err(_) => put(room, Failure::Memory.as_str().as_bytes()),

@@ -1,15 +1,14 @@
 //! The ends of a run: what is read and what is written.
 ghost use Rattle.std.specs.Prelude.{ℕ, ◌≡◌, ◌+◌, ◌<◌, IfOk, OnOk, IfSome, take};
 ghost use Rattle.std.specs.Io.KnownBytes.{Appends, Consumes};
-ghost use Rattle.syned_run.specs.Ends.{IsFrontOf, TakesAtMost, script_limit};
+ghost use Rattle.script_lines.specs.Dialect.{bytes_in};
+ghost use Rattle.syned_run.specs.Ends.{IsFrontOf, TakesAtMost};
 ghost use Rattle.syned_run.specs.inner.ReadOn.{ReadsFrom};
 
 use std::alloc::{AllocError, Global};
 use std::io;
 use std::io::{Read, Write};
-
-/// How many bytes a script has at most.
-pub const SCRIPT_LIMIT: usize = 1_048_576;
+use syned_script::Dialect;
 
 // How many bytes are asked for at once.
 const BLOCK: usize = 4096;
@@ -37,15 +36,20 @@ impl From<AllocError> for EndFailed {
 
 /// All bytes up to the reader's end, or up to one byte more than a script may have; what comes after them stays in the
 /// reader. A read that is interrupted has failed.
-pub(crate) fn read_script<R: Read>(alloc: Global, reader: &mut R) -> Result<Vec<u8>, EndFailed>
-    ensures read { IfOk result (λ v. IsFrontOf (R.remaining reader.old) (script_limit + 1) v.items) }
+pub(crate) fn read_script<R: Read>(
+    alloc: Global,
+    dialect: Dialect,
+    reader: &mut R,
+) -> Result<Vec<u8>, EndFailed>
+    ensures read { IfOk result (λ v. IsFrontOf (R.remaining reader.old) (bytes_in dialect + 1) v.items) }
     ensures left { IfOk result (λ v. Consumes (R.remaining reader.old) (R.remaining reader.new) v.items) }
-    ensures taken { TakesAtMost (R.remaining reader.old) (R.remaining reader.new) (script_limit + 1) }
+    ensures taken { TakesAtMost (R.remaining reader.old) (R.remaining reader.new) (bytes_in dialect + 1) }
 {
+    let limit = dialect.script_limit();
     let mut script = Vec::new(alloc);
-    while script.len() <= SCRIPT_LIMIT {
-        let limit = SCRIPT_LIMIT + 1 - script.len();
-        if read_more(reader, &mut script, limit)? == 0 {
+    while script.len() <= limit {
+        let left = limit + 1 - script.len();
+        if read_more(reader, &mut script, left)? == 0 {
             return Ok(script);
         }
     }

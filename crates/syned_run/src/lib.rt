@@ -9,7 +9,7 @@ mod print;
 mod program;
 mod status;
 
-pub use bytes::{Outcome, answer_into, explain_into};
-pub use ends::SCRIPT_LIMIT;
-pub use explained::explain;
-pub use program::{run, run_explained};
+pub use bytes::{Outcome, answer_into, answer_into_for, explain_into, explain_into_for};
+pub use explained::{explain, explain_for};
+pub use program::{run, run_explained, run_explained_for, run_for};
+pub use syned_script::{Dialect, SCRIPT_LIMIT};

@@ -4,3 +4,4 @@ pub mod PayloadForms
 pub mod TextLines
 pub mod LinesCarried
 pub mod Ending
+pub mod KindsNamed

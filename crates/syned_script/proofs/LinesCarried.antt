@@ -5,6 +5,7 @@ use Rattle.std.proofs.lemmas.List.{take_all, take_more, append-nil}
 use Rattle.std.proofs.lemmas.Bool.{true≢false}
 use denote.Ref.{Bor}
 use Rattle.syned_script.proofs.TextLines.{split-at, rest-texts}
+use Rattle.script_lines.specs.declared.dialect.Dialect.{Dialect}
 use Rattle.script_lines.specs.Line.{is_blank, IsLine}
 use Rattle.script_lines.specs.ScriptLine as line
 use Rattle.script_lines.specs.ScriptLine.{ScriptLine}
@@ -19,8 +20,8 @@ use Rattle.syned_script.specs.declared.stop.Stop.TheVariants as stop
 use Rattle.syned_script.specs.declared.stop.Stopped.{Stopped}
 
 -- ---- one more line
-pub carried-push : (texts : List (List ℕ)) (text : List ℕ) (s t u : State) (line : ScriptLine) → Carried texts s t → IsLine text line → Steps t line (Goes u) → Carried (texts ++ text ∷ []) s u
-carried-push [] text s t u line h is steps = (line, u, is, subst (λ x. Steps x line (Goes u)) h steps, refl)
+pub carried-push : (texts : List (List ℕ)) (text : List ℕ) (s t u : State) (line : ScriptLine) → Carried texts s t → IsLine t.language text line → Steps t line (Goes u) → Carried (texts ++ text ∷ []) s u
+carried-push [] text s t u line h is steps = (line, u, subst (λ x. IsLine x.language text line) h is, subst (λ x. Steps x line (Goes u)) h steps, refl)
 carried-push (x ∷ texts) text s t u line (first, next, first-is, first-steps, rest) is steps =
     (first, next, first-is, first-steps, carried-push texts text next t u line rest is steps)
 
@@ -28,6 +29,7 @@ carried-push (x ∷ texts) text s t u line (first, next, first-is, first-steps, 
 line-bad : (n : ℕ) (s : State) (l : ScriptLine) (after : List (List ℕ)) → Steps s l IsBad → LineEnds n s l after (BadLine n)
 line-bad n s line.Finish after h = absurd h
 line-bad n s line.Blank after h = (refl, h)
+line-bad n s (line.Kinds names) after h = (refl, h)
 line-bad n s (line.Tree name root) after h = (refl, h)
 line-bad n s (line.Edit name node) after h = (refl, h)
 line-bad n s (line.Map parent input output) after h = (refl, h)
@@ -42,6 +44,7 @@ line-bad n s (line.Order order) after h = (refl, h)
 line-refused : (n : ℕ) (s : State) (l : ScriptLine) (after : List (List ℕ)) (r : Refusal) → Steps s l (Refuses r) → LineEnds n s l after (Refused r)
 line-refused n s line.Finish after r h = absurd h
 line-refused n s line.Blank after r h = h
+line-refused n s (line.Kinds names) after r h = h
 line-refused n s (line.Tree name root) after r h = h
 line-refused n s (line.Edit name node) after r h = h
 line-refused n s (line.Map parent input output) after r h = h
@@ -61,8 +64,8 @@ bad-ends n s text after (inr (l, is, bad)) = inr (l, is, line-bad n s l after ba
 counted : (texts : List (List ℕ)) (i : ℕ) → i < length texts → suc (length (take i texts)) ≡ i + 1
 counted texts i lt = let l = length-take i texts in grind arith
 
-pub ends-at : (texts : List (List ℕ)) (i : ℕ) (text : List ℕ) (t : State) (o : Outcome) → i < length texts → text ≡ get_or texts i text → Carried (take i texts) new_state t → Ends (i + 1) t (text ∷ drop (i + 1) texts) o → EndsAt texts (i + 1) o
-ends-at texts i text t o lt is carried ends = (
+pub ends-at : (d : Dialect) (texts : List (List ℕ)) (i : ℕ) (text : List ℕ) (t : State) (o : Outcome) → i < length texts → text ≡ get_or texts i text → Carried (take i texts) (new_state d) t → Ends (i + 1) t (text ∷ drop (i + 1) texts) o → EndsAt d texts (i + 1) o
+ends-at d texts i text t o lt is carried ends = (
   record {
     before = take i texts;
     rest = text ∷ drop (i + 1) texts;
@@ -74,33 +77,33 @@ ends-at texts i text t o lt is carried ends = (
   sym (counted texts i lt),
 )
 
-pub stops-at : (texts : List (List ℕ)) (i : ℕ) (text : List ℕ) (t : State) (s : Stop) → i < length texts → text ≡ get_or texts i text → Carried (take i texts) new_state t → TextStops t text s → StopsSo texts (i + 1) s
-stops-at texts i text t (stop.Bad f) lt is carried h = (ends-at texts i text t (BadLine (i + 1)) lt is carried (bad-ends (i + 1) t text (drop (i + 1) texts) h)).0
-stops-at texts i text t (stop.Refused r) lt is carried (l, says, refuses) = ends-at texts i text t (Refused r) lt is carried (inr (l, says, line-refused (i + 1) t l (drop (i + 1) texts) r refuses))
-stops-at texts i text t stop.Memory lt is carried h = tt
+pub stops-at : (d : Dialect) (texts : List (List ℕ)) (i : ℕ) (text : List ℕ) (t : State) (s : Stop) → i < length texts → text ≡ get_or texts i text → Carried (take i texts) (new_state d) t → TextStops t text s → StopsSo d texts (i + 1) s
+stops-at d texts i text t (stop.Bad f) lt is carried h = (ends-at d texts i text t (BadLine (i + 1)) lt is carried (bad-ends (i + 1) t text (drop (i + 1) texts) h)).0
+stops-at d texts i text t (stop.Refused r) lt is carried (l, says, refuses) = ends-at d texts i text t (Refused r) lt is carried (inr (l, says, line-refused (i + 1) t l (drop (i + 1) texts) r refuses))
+stops-at d texts i text t stop.Memory lt is carried h = tt
 
-pub reached-at : (texts : List (List ℕ)) (i : ℕ) (text : List ℕ) (t u : State) → i < length texts → text ≡ get_or texts i text → Carried (take i texts) new_state t → IsLine text line.Finish → u ≡ t → Reached texts (i + 1) u
-reached-at texts i text t u lt is carried finishes same = record {
+pub reached-at : (d : Dialect) (texts : List (List ℕ)) (i : ℕ) (text : List ℕ) (t u : State) → i < length texts → text ≡ get_or texts i text → Carried (take i texts) (new_state d) t → IsLine t.language text line.Finish → u ≡ t → Reached d texts (i + 1) u
+reached-at d texts i text t u lt is carried finishes same = record {
   before = take i texts;
   finish = text;
   after = drop (i + 1) texts;
   is = split-at texts i text lt is;
   counted = sym (counted texts i lt);
-  carried = subst (λ x. Carried (take i texts) new_state x) (sym same) carried;
+  carried = subst (λ x. Carried (take i texts) (new_state d) x) (sym same) carried;
   finishes = finishes;
 }
 
-pub next-carried : (texts : List (List ℕ)) (i : ℕ) (text : List ℕ) (t u : State) → i < length texts → text ≡ get_or texts i text → Carried (take i texts) new_state t → (l : ScriptLine) × IsLine text l × Steps t l (Goes u) → Carried (take (i + 1) texts) new_state u
-next-carried texts i text t u lt is carried (l, says, steps) =
-    subst (λ x. Carried x new_state u) (sym (take_more texts i text lt ∙ ap (λ x. take i texts ++ x ∷ []) (sym is))) (carried-push (take i texts) text new_state t u l carried says steps)
+pub next-carried : (d : Dialect) (texts : List (List ℕ)) (i : ℕ) (text : List ℕ) (t u : State) → i < length texts → text ≡ get_or texts i text → Carried (take i texts) (new_state d) t → (l : ScriptLine) × IsLine t.language text l × Steps t l (Goes u) → Carried (take (i + 1) texts) (new_state d) u
+next-carried d texts i text t u lt is carried (l, says, steps) =
+    subst (λ x. Carried x (new_state d) u) (sym (take_more texts i text lt ∙ ap (λ x. take i texts ++ x ∷ []) (sym is))) (carried-push (take i texts) text (new_state d) t u l carried says steps)
 
-pub no-finish : (texts : List (List ℕ)) (i : ℕ) (t : State) → length texts ≤ i → Carried (take i texts) new_state t → EndsSo texts (BadLine (length texts + 1))
-no-finish texts i t past carried = record {
+pub no-finish : (d : Dialect) (texts : List (List ℕ)) (i : ℕ) (t : State) → length texts ≤ i → Carried (take i texts) (new_state d) t → EndsSo d texts (BadLine (length texts + 1))
+no-finish d texts i t past carried = record {
   before = texts;
   rest = [];
   state = t;
   is = sym (append-nil texts);
-  carried = subst (λ x. Carried x new_state t) (take_all i texts past) carried;
+  carried = subst (λ x. Carried x (new_state d) t) (take_all i texts past) carried;
   ends = ap BadLine (add-one (length texts));
 }
 
@@ -109,52 +112,52 @@ after-finish : (before : List (List ℕ)) (finish : List ℕ) (after : List (Lis
 after-finish [] finish after = refl
 after-finish (x ∷ before) finish after = after-finish before finish after
 
-what-follows : (texts : List (List ℕ)) (n : ℕ) (t : State) (r : Reached texts n t) → drop n texts ≡ r.after
-what-follows texts n t r = ap (λ m. drop m texts) r.counted ∙ ap (drop (suc (length r.before))) r.is ∙ after-finish r.before r.finish r.after
+what-follows : (d : Dialect) (texts : List (List ℕ)) (n : ℕ) (t : State) (r : Reached d texts n t) → drop n texts ≡ r.after
+what-follows d texts n t r = ap (λ m. drop m texts) r.counted ∙ ap (drop (suc (length r.before))) r.is ∙ after-finish r.before r.finish r.after
 
-finish-ends : (texts : List (List ℕ)) (n : ℕ) (t : State) (r : Reached texts n t) (o : Outcome) → LineEnds n t line.Finish (drop n texts) o → EndsAt texts n o
-finish-ends texts n t r o ends = (
+finish-ends : (d : Dialect) (texts : List (List ℕ)) (n : ℕ) (t : State) (r : Reached d texts n t) (o : Outcome) → LineEnds n t line.Finish (drop n texts) o → EndsAt d texts n o
+finish-ends d texts n t r o ends = (
   record {
     before = r.before;
     rest = r.finish ∷ r.after;
     state = t;
     is = r.is;
     carried = r.carried;
-    ends = inr (line.Finish, r.finishes, subst (λ m. LineEnds m t line.Finish r.after o) r.counted (subst (λ a. LineEnds n t line.Finish a o) (what-follows texts n t r) ends));
+    ends = inr (line.Finish, r.finishes, subst (λ m. LineEnds m t line.Finish r.after o) r.counted (subst (λ a. LineEnds n t line.Finish a o) (what-follows d texts n t r) ends));
   },
   r.counted,
 )
 
-pub finished : (texts : List (List ℕ)) (n : ℕ) (t : State) (e : Editing) (o : Outcome) → Reached texts n t → EndIsGood t (drop n texts) → t.editing ≡ Some e → FinishGives t e o → EndsAt texts n o
-finished texts n t e o r good editing gives =
+pub finished : (d : Dialect) (texts : List (List ℕ)) (n : ℕ) (t : State) (e : Editing) (o : Outcome) → Reached d texts n t → EndIsGood t (drop n texts) → t.editing ≡ Some e → FinishGives t e o → EndsAt d texts n o
+finished d texts n t e o r good editing gives =
     let after = drop n texts in
     let ends : FinishEnds n t e after o = subst (λ b. MatchBool b (FinishGives t e o) (o ≡ BadLine (suc n + position_or_len (λ line. not (is_blank line)) after))) (sym good.1) gives in
-    finish-ends texts n t r o (subst (λ x. MatchOption x (o ≡ BadLine n) (λ e. FinishEnds n t e after o)) (sym editing) ends)
+    finish-ends d texts n t r o (subst (λ x. MatchOption x (o ≡ BadLine n) (λ e. FinishEnds n t e after o)) (sym editing) ends)
 
-bad-end : (texts : List (List ℕ)) (n bad : ℕ) (t : State) → Reached texts n t → IsBadEnd t (drop n texts) n bad → EndsSo texts (BadLine bad)
-bad-end texts n bad t r (inl (none, at)) =
+bad-end : (d : Dialect) (texts : List (List ℕ)) (n bad : ℕ) (t : State) → Reached d texts n t → IsBadEnd t (drop n texts) n bad → EndsSo d texts (BadLine bad)
+bad-end d texts n bad t r (inl (none, at)) =
     let after = drop n texts in
-    (finish-ends texts n t r (BadLine bad) (subst (λ x. MatchOption x (BadLine bad ≡ BadLine n) (λ e. FinishEnds n t e after (BadLine bad))) (sym none) (ap BadLine at))).0
-bad-end texts n bad t r (inr (some, more, at)) =
+    (finish-ends d texts n t r (BadLine bad) (subst (λ x. MatchOption x (BadLine bad ≡ BadLine n) (λ e. FinishEnds n t e after (BadLine bad))) (sym none) (ap BadLine at))).0
+bad-end d texts n bad t r (inr (some, more, at)) =
     let after = drop n texts in
-    (finish-ends texts n t r (BadLine bad) (for-each t.editing some)).0
+    (finish-ends d texts n t r (BadLine bad) (for-each t.editing some)).0
   where
     for-each : (o : Option Editing) → is_some o ≡ true → MatchOption o (BadLine bad ≡ BadLine n) (λ e. FinishEnds n t e (drop n texts) (BadLine bad))
     for-each None h = absurd (true≢false (sym h))
     for-each (Some e) h = subst (λ b. MatchBool b (FinishGives t e (BadLine bad)) (BadLine bad ≡ BadLine (suc n + position_or_len (λ line. not (is_blank line)) (drop n texts)))) (sym more) (ap BadLine at)
 
-pub ends-badly : (texts : List (List ℕ)) (n : ℕ) (t : State) (s : Stopped) → Reached texts n t → EndStops t (drop n texts) n s → StopsSo texts s.line s.stop
-ends-badly texts n t s r h = by-stop s.stop h
+pub ends-badly : (d : Dialect) (texts : List (List ℕ)) (n : ℕ) (t : State) (s : Stopped) → Reached d texts n t → EndStops t (drop n texts) n s → StopsSo d texts s.line s.stop
+ends-badly d texts n t s r h = by-stop s.stop h
   where
-    by-stop : (x : Stop) → EndStops t (drop n texts) n (record { line = s.line; stop = x }) → StopsSo texts s.line x
-    by-stop (stop.Bad f) h = bad-end texts n s.line t r h
+    by-stop : (x : Stop) → EndStops t (drop n texts) n (record { line = s.line; stop = x }) → StopsSo d texts s.line x
+    by-stop (stop.Bad f) h = bad-end d texts n s.line t r h
     by-stop (stop.Refused f) h = absurd h
     by-stop stop.Memory h = tt
 
-pub finish-refused : (texts : List (List ℕ)) (n : ℕ) (t : State) (s : Stop) → Reached texts n t → EndIsGood t (drop n texts) → FinishStops t s → StopsSo texts n s
-finish-refused texts n t (stop.Bad f) r good none = absurd (true≢false (sym good.0 ∙ ap is_some none))
-finish-refused texts n t (stop.Refused reason) r good (e, editing, refuses) = finished texts n t e (Refused reason) r good editing refuses
-finish-refused texts n t stop.Memory r good h = tt
+pub finish-refused : (d : Dialect) (texts : List (List ℕ)) (n : ℕ) (t : State) (s : Stop) → Reached d texts n t → EndIsGood t (drop n texts) → FinishStops t s → StopsSo d texts n s
+finish-refused d texts n t (stop.Bad f) r good none = absurd (true≢false (sym good.0 ∙ ap is_some none))
+finish-refused d texts n t (stop.Refused reason) r good (e, editing, refuses) = finished d texts n t e (Refused reason) r good editing refuses
+finish-refused d texts n t stop.Memory r good h = tt
 
 -- a line that is not blank, so many after `finish`
 pub bad-after : (t : State) (lines : List (Bor (List ℕ))) (n i : ℕ) (s : Stopped) (x : Stop) (f : Fault) → s ≡ record { line = n + i + 1; stop = x } → x ≡ stop.Bad f → is_some t.editing ≡ true → list_all is_blank (texts_in (take (length lines - n) (drop n lines))) ≡ false → i ≡ position_or_len (λ line. not (is_blank line)) (texts_in (take (length lines - n) (drop n lines))) → EndStops t (drop n (texts_in lines)) n s

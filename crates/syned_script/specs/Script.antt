@@ -10,9 +10,11 @@
 --     LineEnds, Ends                How a line with a number ends the script before other lines; the same of lines, the first of which has
 --                                   the number. Without a `finish` it is the line after the last one that is bad.
 --     Carried                       Lines were carried out, one after the other.
---     EndsSo, Means                 How lines end: those before one were carried out, and that one ends them; how a script ends.
+--     EndsSo                        How lines end in a dialect: those before one were carried out, and that one ends them.
+--     MeansFor, Means               How a script ends in a dialect; in `Syned`.
 --     EndsAt                        Lines end so (`EndsSo`), and the line that ends them has this number.
---     StopsSo, StopsAt              Lines without an edit end so, unless memory ran out; a refused call at its line. So does a script.
+--     StopsSo                       Lines without an edit end so in a dialect, unless memory ran out; a refused call at its line.
+--     StopsAtFor, StopsAt           So does a script; in `Syned`.
 use Rattle.std.specs.Prelude.{◌≡◌, ◌⊎◌, ℕ, suc, ◌+◌, ◌==◌, ◌<◌, not, cond, List, [], ◌∷◌, ◌++◌, length, Option, Some, None, IfSome, MatchOption, MatchBool}
 use Rattle.std.specs.List.{slice_split, list_all, position_or_len}
 use Rattle.syntax_editor.specs.Tree.{text_length}
@@ -23,6 +25,8 @@ use Rattle.syntax_editor.specs.ExecuteError.TheVariants as execute_error
 use Rattle.syntax_editor.specs.Schedule.{IsAllowed}
 use Rattle.syntax_editor.specs.ExecuteRefusal.{ExecuteRefuses}
 use Rattle.syntax_editor.specs.Editor.{Editor, plan_of, FinishRefuses}
+use Rattle.script_lines.specs.declared.dialect.Dialect.{Dialect}
+use Rattle.script_lines.specs.declared.dialect.Dialect.TheVariants.{Syned}
 use Rattle.script_lines.specs.ScriptLine as line
 use Rattle.script_lines.specs.ScriptLine.{ScriptLine}
 use Rattle.script_lines.specs.Line.{is_empty, is_blank, IsLine}
@@ -84,33 +88,39 @@ LineEnds n s call after (Edited edit words) = ⊥
 abbrev pub Ends : ℕ → State → List (List ℕ) → Outcome → Type 0
 Ends n s [] o = o ≡ BadLine n
 Ends n s (text ∷ after) o =
-    (((line : ScriptLine) → IsLine text line → ⊥) × (o ≡ BadLine n))
-    ⊎ ((line : ScriptLine) × IsLine text line × LineEnds n s line after o)
+    (((line : ScriptLine) → IsLine s.language text line → ⊥) × (o ≡ BadLine n))
+    ⊎ ((line : ScriptLine) × IsLine s.language text line × LineEnds n s line after o)
 
 -- ---- the whole
 abbrev pub Carried : List (List ℕ) → State → State → Type 0
 Carried [] s t = t ≡ s
 Carried (text ∷ texts) s t =
-    (line : ScriptLine) × (next : State) × IsLine text line × Steps s line (Goes next) × Carried texts next t
+    (line : ScriptLine) × (next : State) × IsLine s.language text line × Steps s line (Goes next) × Carried texts next t
 
-pub record EndsSo (lines : List (List ℕ)) (o : Outcome) : Type 0 where
+pub record EndsSo (d : Dialect) (lines : List (List ℕ)) (o : Outcome) : Type 0 where
   pub before : List (List ℕ)
   pub rest : List (List ℕ)
   pub state : State
   pub is : lines ≡ before ++ rest
-  pub carried : Carried before new_state state
+  pub carried : Carried before (new_state d) state
   pub ends : Ends (suc (length before)) state rest o
 
+abbrev pub MeansFor : Dialect → List ℕ → Outcome → Type 0
+MeansFor d script o = EndsSo d (lines_in script) o
+
 abbrev pub Means : List ℕ → Outcome → Type 0
-Means script o = EndsSo (lines_in script) o
+Means script o = MeansFor Syned script o
 
-abbrev pub EndsAt : List (List ℕ) → ℕ → Outcome → Type 0
-EndsAt lines number o = (e : EndsSo lines o) × (number ≡ suc (length e.before))
+abbrev pub EndsAt : Dialect → List (List ℕ) → ℕ → Outcome → Type 0
+EndsAt d lines number o = (e : EndsSo d lines o) × (number ≡ suc (length e.before))
 
-abbrev pub StopsSo : List (List ℕ) → ℕ → Stop → Type 0
-StopsSo lines number (stop.Bad fault) = EndsSo lines (BadLine number)
-StopsSo lines number (stop.Refused reason) = EndsAt lines number (Refused reason)
-StopsSo lines number stop.Memory = Unit {0}
+abbrev pub StopsSo : Dialect → List (List ℕ) → ℕ → Stop → Type 0
+StopsSo d lines number (stop.Bad fault) = EndsSo d lines (BadLine number)
+StopsSo d lines number (stop.Refused reason) = EndsAt d lines number (Refused reason)
+StopsSo d lines number stop.Memory = Unit {0}
+
+abbrev pub StopsAtFor : Dialect → List ℕ → ℕ → Stop → Type 0
+StopsAtFor d script number reason = StopsSo d (lines_in script) number reason
 
 abbrev pub StopsAt : List ℕ → ℕ → Stop → Type 0
-StopsAt script number reason = StopsSo (lines_in script) number reason
+StopsAt script number reason = StopsAtFor Syned script number reason

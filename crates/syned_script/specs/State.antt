@@ -4,8 +4,8 @@
 --
 --     Editing                       The editor, and the order of its changes, if a line gave one.
 --     Roots, with_root              The root with each name; the same with one more root.
---     State, new_state              The number of the next tree, the roots, the annotation words by their first use, and what is edited;
---                                   the state before the first line.
+--     State, new_state              The language of the next line, the number of the next tree, the roots, the annotation words by their
+--                                   first use, and what is edited; the state before the first line, in a dialect.
 --     element_in, node_in, elements_in  The element that a reference leads to; the node; those of several references, if there is one for
 --                                   each.
 --     position_in                   The position that a line names; none beside a root.
@@ -14,6 +14,9 @@
 --                                   call of its own, and so has a range without any.
 --     Step                          What a line does: `Goes` to a state, `Refuses`, or `IsBad`.
 --     with_editor                   A state with another editor.
+--     IsFree, AreFree, named        A name is spelled as one of a kind, no kind has it, and there is a next kind, which has no name; names
+--                                   are, where each that comes first is given to the next kind; the names of kinds after these were given.
+--     KindsStep                     What a line `kinds` does, which comes before any tree.
 --     root_refusal, tree_step       Why a tree becomes no root, if it doesn't: `TooLong` first; what a line `tree` does.
 --     edit_step                     What a line `edit` does: the root is the node's own, or one of a new tree where the node has a parent.
 --     record_step, recorded_in      What a call does that records a change; the same, where there may be no such call or no editor.
@@ -40,7 +43,7 @@
 -- With `replace R/3 U/0` in line 4 there is no element at `R/3`, so no call: the script is `BadLine 4`. With `delete R`
 -- there is a call, and it is refused: the script is `Refused` with `DeletesRoot`. With a line `edit S A` after `finish`
 -- it is `BadLine 6`; with a comment there it is `Edited`.
-use Rattle.std.specs.Prelude.{◌≡◌, ℕ, suc, ◌==◌, ◌&&◌, ◌||◌, cond, List, [], ◌∷◌, ◌++◌, Option, Some, None, option_map, option_and_then, is_some, nat_le, MatchOption}
+use Rattle.std.specs.Prelude.{◌≡◌, ℕ, suc, ◌<◌, ◌^◌, true, ◌==◌, ◌&&◌, ◌||◌, cond, List, [], ◌∷◌, ◌++◌, Option, Some, None, option_map, option_and_then, is_some, nat_le, MatchOption}
 use Rattle.std.specs.Option.{option_map_or}
 use Rattle.std.specs.List.{list_any, position_or_len}
 use Rattle.std.specs.Map.{update}
@@ -60,6 +63,9 @@ use Rattle.syntax_editor.specs.Position.{before, after, last_child_of}
 use Rattle.syntax_editor.specs.RecordCall.{RecordCall, Inserting, InsertingAll, Deleting, Replacing, ReplacingWithMany, DeletingAll, ReplacingAll, refusal}
 use Rattle.syntax_editor.specs.Editor.{Editor, has_parent, edited_root, new_editor, after_call, Maps, registered_with}
 use Rattle.list_removal.specs.Removal.{removal}
+use Rattle.tree_text.specs.KindNames.{KindName, IsTaken, is_name, name_in, next_kind}
+use Rattle.script_lines.specs.Dialect.{Language, new_language}
+use Rattle.script_lines.specs.declared.dialect.Dialect.{Dialect}
 use Rattle.script_lines.specs.ScriptLine as line
 use Rattle.script_lines.specs.ScriptLine.{Ref, Gap, ScriptLine, First, Last, Before, After}
 use Rattle.syned_script.specs.declared.refusal.Refusal.{Refusal}
@@ -76,13 +82,15 @@ abbrev pub with_root : List ℕ → Element → Roots → Roots
 with_root name root roots = update bytes_eq roots name (Some root)
 
 pub record State : Type 0 where
+  pub language : Language
   pub next : ℕ
   pub roots : Roots
   pub words : List (List ℕ)
   pub editing : Option Editing
 
-abbrev pub new_state : State
-new_state = record { next = 1; roots = λ name. None; words = []; editing = None }
+abbrev pub new_state : Dialect → State
+new_state dialect =
+    record { language = new_language dialect; next = 1; roots = λ name. None; words = []; editing = None }
 
 -- ---- what a line names
 abbrev pub element_in : Roots → Ref → Option SyntaxElement
@@ -131,6 +139,26 @@ pub data Step : Type 0 where
 abbrev pub with_editor : Editor → Editing → State → State
 with_editor editor e s = record s { editing = Some (record e { editor = editor }) }
 
+abbrev pub IsFree : List KindName → List ℕ → Type 0
+IsFree given name =
+    (is_name name ≡ true) × (next_kind given < 2 ^ 16) × (name_in given (next_kind given) ≡ None) × (IsTaken given name → ⊥)
+
+abbrev pub AreFree : List KindName → List (List ℕ) → Type 0
+AreFree given [] = Unit {0}
+AreFree given (name ∷ names) = IsFree given name × AreFree (given ++ (next_kind given, name) ∷ []) names
+
+abbrev pub named : List KindName → List (List ℕ) → List KindName
+named given [] = given
+named given (name ∷ names) = named (given ++ (next_kind given, name) ∷ []) names
+
+-- the number of the first tree is 1
+abbrev pub KindsStep : State → List (List ℕ) → Step → Type 0
+KindsStep s names (Goes t) =
+    (s.next ≡ 1) × AreFree s.language.kinds names
+    × (t ≡ record s { language = record s.language { kinds = named s.language.kinds names } })
+KindsStep s names (Refuses reason) = ⊥
+KindsStep s names IsBad = s.next ≡ 1 → AreFree s.language.kinds names → ⊥
+
 abbrev pub root_refusal : ℕ → SyntaxTree → Option TreeError
 root_refusal next t =
     cond (nat_le length_limit (text_length t)) (Some TooLong) (cond (next == spent) (Some NoTreeNumber) None)
@@ -144,6 +172,7 @@ tree_step s name t =
 -- the root is one of a new tree where the node has a parent
 abbrev begun : State → List ℕ → Element → State
 begun s name node = record {
+  language = s.language;
   next = cond (has_parent node) (suc s.next) s.next;
   roots = with_root name (edited_root s.next node) s.roots;
   words = s.words;
@@ -204,6 +233,7 @@ order_step s order = option_map_or (λ e. cond (is_some e.order) IsBad
 
 abbrev pub Steps : State → ScriptLine → Step → Type 0
 Steps s line.Blank step = step ≡ Goes s
+Steps s (line.Kinds names) step = KindsStep s names step
 Steps s (line.Tree name root) step = step ≡ tree_step s name root
 Steps s (line.Edit name node) step = step ≡ edit_step s name (node_in s.roots node)
 Steps s (line.Map parent input output) step =

@@ -5,7 +5,7 @@ ghost use Rattle.script_lines.specs.Line.{is_blank};
 ghost use Rattle.syned_script.specs.State as state;
 ghost use Rattle.syned_script.specs.State.{new_state};
 ghost use Rattle.syned_script.specs.Script.{lines_in, Edited, FinishGives, CarriesOut, EndRefuses};
-ghost use Rattle.syned_script.specs.Script.{Means, StopsSo, StopsAt};
+ghost use Rattle.syned_script.specs.Script.{Means, MeansFor, StopsSo, StopsAt, StopsAtFor};
 ghost use Rattle.syned_script.specs.inner.Stops.{StopsFor};
 ghost use Rattle.syned_script.specs.inner.SessionState.{editing_of, state_of};
 ghost use Rattle.syned_script.specs.inner.Run.{texts_in, TextGives, Reached, EndIsGood, EndStops, FinishStops};
@@ -17,7 +17,7 @@ use crate::session::{Editing, Session};
 use crate::stop::{Stop, Stopped};
 use crate::words::Words;
 use cst_core::TreeIds;
-use script_lines::{Line, is_blank, read_line};
+use script_lines::{Dialect, Line, is_blank, read_line};
 use std::alloc::Global;
 use syntax_editor::{SyntaxEdit, SyntaxEditor};
 
@@ -48,7 +48,15 @@ pub fn carry_out(alloc: Global, script: &str) -> Result<CarriedOut, Stopped>
     ensures ok { IfOk result (λ done. Means script.now (Edited done.edit done.words)) }
     ensures err { IfErr result (λ stopped. StopsAt script.now stopped.line stopped.stop) }
 {
-    let mut session = Session::new(alloc);
+    carry_out_for(alloc, Dialect::Syned, script)
+}
+
+/// `carry_out` of a script in a dialect.
+pub fn carry_out_for(alloc: Global, dialect: Dialect, script: &str) -> Result<CarriedOut, Stopped>
+    ensures ok { IfOk result (λ done. MeansFor dialect script.now (Edited done.edit done.words)) }
+    ensures err { IfErr result (λ stopped. StopsAtFor dialect script.now stopped.line stopped.stop) }
+{
+    let mut session = Session::new(alloc, dialect);
     let number = go_through(alloc, &mut session, script)?;
     match finish(alloc, session) {
         Ok(done) => Ok(done),
@@ -57,8 +65,8 @@ pub fn carry_out(alloc: Global, script: &str) -> Result<CarriedOut, Stopped>
 }
 
 /// What a script records, for another engine that is to carry it out; `None` where a line is bad, or its call refused, or memory is.
-pub fn record_script(alloc: Global, script: &str) -> Option<Recorded> {
-    let mut session = Session::new(alloc);
+pub fn record_script(alloc: Global, dialect: Dialect, script: &str) -> Option<Recorded> {
+    let mut session = Session::new(alloc, dialect);
     go_through(alloc, &mut session, script).ok()?;
     let (Editing { editor, order }, ids, words) = session.into_editing().ok()?;
     Some(Recorded {
@@ -81,10 +89,12 @@ fn lines<'a>(alloc: Global, script: &'a str) -> Result<Vec<&'a str>, Stopped>
 
 // Carries out the lines before `finish`, tells the number of that one, and tests what follows.
 fn go_through(alloc: Global, session: &mut Session, script: &str) -> Result<usize, Stopped>
-    requires { state_of session.old ≡ new_state }
-    ensures reached { IfOk result (λ n. Reached (lines_in script.now) n (state_of session.new)) }
+    requires { state_of session.old ≡ new_state session.old.language.dialect }
+    ensures reached { IfOk result
+        (λ n. Reached session.old.language.dialect (lines_in script.now) n (state_of session.new)) }
     ensures good { IfOk result (λ n. EndIsGood (state_of session.new) (drop n (lines_in script.now))) }
-    ensures err { IfErr result (λ stopped. StopsAt script.now stopped.line stopped.stop) }
+    ensures err { IfErr result
+        (λ stopped. StopsAtFor session.old.language.dialect script.now stopped.line stopped.stop) }
 {
     let lines = lines(alloc, script)?;
     let number = record(alloc, session, &lines)?;
@@ -94,10 +104,12 @@ fn go_through(alloc: Global, session: &mut Session, script: &str) -> Result<usiz
 
 // Carries out the lines before `finish`, and tells the number of that one.
 fn record(alloc: Global, session: &mut Session, lines: &[&str]) -> Result<usize, Stopped>
-    requires { state_of session.old ≡ new_state }
-    ensures reached { IfOk result (λ n. Reached (texts_in lines.now) n (state_of session.new)) }
+    requires { state_of session.old ≡ new_state session.old.language.dialect }
+    ensures reached { IfOk result
+        (λ n. Reached session.old.language.dialect (texts_in lines.now) n (state_of session.new)) }
     ensures within { IfOk result (λ n. n ≤ length lines.now) }
-    ensures err { IfErr result (λ stopped. StopsSo (texts_in lines.now) stopped.line stopped.stop) }
+    ensures err { IfErr result
+        (λ stopped. StopsSo session.old.language.dialect (texts_in lines.now) stopped.line stopped.stop) }
 {
     for (index, text) in lines.iter().enumerate() {
         match carry_out_line(alloc, session, text) {
@@ -113,7 +125,7 @@ fn record(alloc: Global, session: &mut Session, lines: &[&str]) -> Result<usize,
 pub(crate) fn carry_out_line(alloc: Global, session: &mut Session, text: &str) -> Result<bool, Stop>
     ensures { TextGives (state_of session.old) text.now result (state_of session.new) }
 {
-    match read_line(alloc, text)? {
+    match read_line(alloc, &session.language, text)? {
         Line::Finish => Ok(true),
         line => {
             session.carry_out(line)?;

@@ -3,6 +3,7 @@
 use crate::carried_out::{Recorded, carry_out_line, record_script};
 use crate::lines::lines_in;
 use crate::session::Session;
+use script_lines::Dialect;
 use std::alloc::{AllocError, Global};
 use syntax_editor::EditPlan;
 
@@ -14,8 +15,12 @@ pub(crate) struct Misplaced {
 }
 
 /// The line that recorded each change of a script, counted from 1, up to the line that ends it.
-pub(crate) fn lines_of_changes(alloc: Global, script: &str) -> Result<Vec<usize>, AllocError> {
-    let mut session = Session::new(alloc);
+pub(crate) fn lines_of_changes(
+    alloc: Global,
+    dialect: Dialect,
+    script: &str,
+) -> Result<Vec<usize>, AllocError> {
+    let mut session = Session::new(alloc, dialect);
     let mut numbers = Vec::new(alloc);
     for (index, text) in lines_in(alloc, script)?.iter().enumerate() {
         let Ok(false) = carry_out_line(alloc, &mut session, text) else {
@@ -29,8 +34,12 @@ pub(crate) fn lines_of_changes(alloc: Global, script: &str) -> Result<Vec<usize>
 }
 
 /// The first number of a script's order that should not be there, or else the first that is missing.
-pub(crate) fn misplaced_in(alloc: Global, script: &str) -> Result<Option<Misplaced>, AllocError> {
-    let Some(Recorded { editor, order, .. }) = record_script(alloc, script) else {
+pub(crate) fn misplaced_in(
+    alloc: Global,
+    dialect: Dialect,
+    script: &str,
+) -> Result<Option<Misplaced>, AllocError> {
+    let Some(Recorded { editor, order, .. }) = record_script(alloc, dialect, script) else {
         return Ok(None);
     };
     let (Some(order), Ok(plan)) = (order, editor.plan(alloc)) else {

@@ -5,7 +5,7 @@ use crate::fault::{Fault, Reason};
 use crate::nearest::nearest_kind;
 use crate::refusal::Refusal;
 use crate::stop::{Stop, Stopped};
-use script_lines::{Flaw, Wanted};
+use script_lines::{Dialect, Flaw, Wanted};
 use std::alloc::{AllocError, Global};
 use syntax_editor::{EditError, ExecuteError};
 
@@ -13,7 +13,7 @@ use syntax_editor::{EditError, ExecuteError};
 const SHOWN: usize = 40;
 
 impl Stopped {
-    /// Why this script ended where it did, for people to read. Of a bad line it is the number, the column, what was read there and what is wrong
+    /// Why this script of this dialect ended where it did, for people to read. Of a bad line it is the number, the column, what was read there and what is wrong
     /// with it; of a refused call what the answer says, what to do about it, and the line, or the lines of the two changes that it names. Lines and
     /// columns count from 1, columns in bytes.
     ///
@@ -21,10 +21,15 @@ impl Stopped {
     /// line 3, column 8, at "u/0": no tree before this line has this name
     /// refused Intersecting 0 1: two changes replace or delete the same element; keep one of them: changes 0 (line 3) and 1 (line 4)
     /// ```
-    pub fn explanation(&self, alloc: Global, script: &str) -> Result<String, AllocError> {
+    pub fn explanation(
+        &self,
+        alloc: Global,
+        dialect: Dialect,
+        script: &str,
+    ) -> Result<String, AllocError> {
         match &self.stop {
             Stop::Bad(fault) => of_fault(alloc, script, self.line, fault),
-            Stop::Refused(refusal) => of_refusal(alloc, script, self.line, refusal),
+            Stop::Refused(refusal) => of_refusal(alloc, dialect, script, self.line, refusal),
             Stop::Memory => String::from_str(alloc, "memory ran out"),
         }
     }
@@ -32,6 +37,7 @@ impl Stopped {
 
 fn of_refusal(
     alloc: Global,
+    dialect: Dialect,
     script: &str,
     line: usize,
     refusal: &Refusal,
@@ -40,12 +46,14 @@ fn of_refusal(
     let mut out = format!(in alloc; "refused {refusal}: {help}: ")?;
     match refusal {
         Refusal::Edit(EditError::Intersecting { first, second }) => {
-            push_changes(alloc, &mut out, script, *first, *second)?;
+            push_changes(alloc, &mut out, dialect, script, *first, *second)?;
         }
         Refusal::Edit(EditError::MissingMapping { change, owner }) => {
-            push_changes(alloc, &mut out, script, *change, *owner)?;
+            push_changes(alloc, &mut out, dialect, script, *change, *owner)?;
         }
-        Refusal::Order(ExecuteError::NotEachOnce) => push_misplaced(alloc, &mut out, script, line)?,
+        Refusal::Order(ExecuteError::NotEachOnce) => push_misplaced(
+            alloc, &mut out, dialect, script, line,
+        )?,
         _ => write!(out, "line {line}")?,
     }
     Ok(out)
@@ -54,11 +62,12 @@ fn of_refusal(
 fn push_changes(
     alloc: Global,
     out: &mut String,
+    dialect: Dialect,
     script: &str,
     one: usize,
     other: usize,
 ) -> Result<(), AllocError> {
-    let lines = lines_of_changes(alloc, script)?;
+    let lines = lines_of_changes(alloc, dialect, script)?;
     out.push_str("changes ")?;
     push_change(out, &lines, one)?;
     out.push_str(" and ")?;
@@ -69,13 +78,14 @@ fn push_changes(
 fn push_misplaced(
     alloc: Global,
     out: &mut String,
+    dialect: Dialect,
     script: &str,
     line: usize,
 ) -> Result<(), AllocError> {
-    let Some(misplaced) = misplaced_in(alloc, script)? else {
+    let Some(misplaced) = misplaced_in(alloc, dialect, script)? else {
         return write!(out, "line {line}");
     };
-    let lines = lines_of_changes(alloc, script)?;
+    let lines = lines_of_changes(alloc, dialect, script)?;
     out.push_str("change ")?;
     push_change(out, &lines, misplaced.change)?;
     out.push(' ')?;

@@ -10,6 +10,12 @@ use std::fmt;
 pub enum Reason {
     /// The line is not well formed.
     Flaw(Flaw),
+    /// A line before this one makes a tree.
+    KindsTooLate,
+    /// A kind has the name.
+    KindTaken,
+    /// All numbers of kinds are taken.
+    NoKindLeft,
     /// Another tree has the name.
     NameTaken,
     /// No tree has the name.
@@ -36,6 +42,9 @@ impl fmt::Display for Reason {
     fn fmt<W: fmt::Write>(&self, f: &mut fmt::Formatter<W>) -> fmt::Result {
         match self {
             Reason::Flaw(flaw) => write!(f, "{flaw}"),
+            Reason::KindsTooLate => f.write_str("kinds are named before the first tree"),
+            Reason::KindTaken => f.write_str("a kind has this name"),
+            Reason::NoKindLeft => f.write_str("there are no more kinds"),
             Reason::NameTaken => f.write_str("another tree has this name"),
             Reason::NoTree => f.write_str("no tree before this line has this name"),
             Reason::NoElement => f.write_str("the tree has no element there"),

@@ -6,6 +6,7 @@ mod carried_out;
 mod changes;
 mod explained;
 mod fault;
+mod kinds;
 mod lines;
 mod mapped;
 mod nearest;
@@ -15,8 +16,9 @@ mod session;
 mod stop;
 mod words;
 
-pub use carried_out::{CarriedOut, Recorded, carry_out, record_script};
+pub use carried_out::{CarriedOut, Recorded, carry_out, carry_out_for, record_script};
 pub use fault::{Fault, Reason};
 pub use refusal::Refusal;
+pub use script_lines::{Dialect, SCRIPT_LIMIT};
 pub use stop::{Stop, Stopped};
 pub use words::{Word, Words};

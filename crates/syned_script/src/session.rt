@@ -1,6 +1,6 @@
 //! The state of a script that is carried out line by line.
-ghost use Rattle.std.specs.Prelude.{◌≡◌, ◌≢◌, true, is_some, map, IfOk, IfErr, OnOk};
-ghost use Rattle.script_lines.specs.LineValue.{ref_of, refs_of, gap_of, line_of};
+ghost use Rattle.std.specs.Prelude.{◌≡◌, ◌≢◌, ◌↔◌, IsTrue, true, is_some, map, IfOk, IfErr, OnOk};
+ghost use Rattle.script_lines.specs.LineValue.{ref_of, refs_of, gap_of, line_of, texts_of};
 ghost use Rattle.script_lines.specs.ScriptLine as says;
 ghost use Rattle.cst_core.specs.Green.{branch_tree};
 ghost use Rattle.syned_script.specs.State.{new_state};
@@ -11,19 +11,21 @@ ghost use Rattle.syned_script.specs.declared.stop.Stop.TheVariants.{Bad};
 
 use crate::calls;
 use crate::fault::Reason;
+use crate::kinds::name_kinds;
 use crate::mapped::map_pair;
 use crate::roots::Roots;
 use crate::stop::Stop;
 use crate::words::Words;
 use cst_core::{GreenNode, SyntaxKind, SyntaxNode, TreeIds};
-use script_lines::{Line, Name, Reference, WrittenPosition};
+use script_lines::{Dialect, Field, Language, Line, Name, Reference, WrittenPosition};
 use std::alloc::Global;
 use syntax_editor::SyntaxEditor;
 
-/// The trees of a script, its source of tree numbers, and what it edits once there is something.
+/// The language of a script, its trees, its source of tree numbers, and what it edits once there is something.
 #[derive(Drop)]
 pub(crate) struct Session {
     alloc: Global,
+    pub(crate) language: Language,
     ids: TreeIds,
     roots: Roots,
     words: Words,
@@ -38,11 +40,12 @@ pub(crate) struct Editing {
 }
 
 impl Session {
-    pub(crate) fn new(alloc: Global) -> Session
-        ensures { state_of result ≡ new_state }
+    pub(crate) fn new(alloc: Global, dialect: Dialect) -> Session
+        ensures { state_of result ≡ new_state dialect }
     {
         Session {
             alloc,
+            language: Language::new(alloc, dialect),
             ids: TreeIds::new(1),
             roots: Roots::new(alloc),
             words: Words::new(alloc),
@@ -57,6 +60,7 @@ impl Session {
     {
         match line {
             Line::Blank => Ok(()),
+            Line::Kinds { names } => self.name_kinds(&names),
             Line::Tree { name, root } => self.add_tree(name, root),
             Line::Edit { name, node } => self.edit(name, &node),
             Line::Map {
@@ -108,6 +112,25 @@ impl Session {
         } = self;
         let editing = editing.ok_or(Stop::bad(0, Reason::NoEdit))?;
         Ok((editing, ids, words))
+    }
+
+    fn name_kinds(&mut self, names: &[Field<'_>]) -> Result<(), Stop>
+        ensures { LineGives (state_of self.old) (says.Kinds (texts_of names.now)) result (state_of self.new) }
+    {
+        if !self.is_without_trees() {
+            return Err(Stop::bad(0, Reason::KindsTooLate));
+        }
+        name_kinds(self.alloc, &mut self.language.names, names)
+    }
+
+    // Whether the next tree is the first.
+    fn is_without_trees(&self) -> bool
+        ensures { IsTrue result ↔ ((state_of self.now).next ≡ 1) }
+    {
+        match self.ids.peek() {
+            Some(next) => next == 1,
+            None => false,
+        }
     }
 
     fn add_tree(&mut self, name: Name<'_>, root: GreenNode) -> Result<(), Stop>

@@ -1,67 +1,93 @@
 //! Edits one after the other: the editor that follows an edit, and chains.
 
-use crate::session::{Session, last, take};
-use crate::shown::{Answer, Done};
-use crate::text_edits;
-use cst_core::SyntaxNode;
+use crate::asked::{annotation, asked};
+use crate::session::Session;
+use cst_core::{SyntaxElement, SyntaxNode};
 use edit_chain::EditChain;
+use std::alloc::AllocError;
 use syntax_editor::NextEdit;
-use test_trees::{NoAnswer, Words};
+use test_trees::{Done, Show, Step, keep, made, say, tried};
 
-/// Takes the step of this name, or passes on what is none of these.
-pub fn answer(s: &mut Session, name: &str, words: &mut Words, out: &mut Answer) -> Done {
-    match name {
+/// Takes the step of this name, or passes on what is of trees and texts alone.
+pub fn answer(s: &mut Session, step: &mut Step) -> Done {
+    match step.name {
         "next_editor" => {
-            let edit = last(&mut s.edits)?;
-            let editor = out.asked(edit.next_editor(s.alloc))?;
-            out.note(s.editors.push(editor));
-            let root = edit.new_root().try_clone(s.alloc)?;
-            keep_root(s, root, words, out)
+            let edit = s.edits.last()?;
+            let editor = asked(edit.next_editor(step.alloc), step)?;
+            step.note(s.editors.push(editor));
+            let root = made(edit.new_root().try_clone(step.alloc), step)?;
+            keep_root(s, root, step)
         }
         "chain" => {
-            let chain = EditChain::new(s.alloc, s.trees.node(words)?);
-            Ok(out.note(s.chains.push(chain)))
+            let chain = EditChain::new(step.alloc, s.trees.node(step)?);
+            Some(step.note(s.chains.push(chain)))
         }
-        "step" => step(s, words, out),
-        "join" => join(s, out),
-        "last_changed" => Ok(out.paths(last(&mut s.chains)?.changed_elements())),
+        "step" => next(s, step),
+        "join" => join(s, step),
+        "last_changed" => Some(step.paths(s.chains.last()?.changed_elements())),
         "find" => {
-            let element = s.trees.element(words)?;
-            let found = out.asked(last(&mut s.chains)?.find(s.alloc, &element))?;
-            out.word(if found.is_empty() { "" } else { "ok" });
-            Ok(out.paths(&found))
+            let element = s.trees.element(step)?;
+            found(s.chains.last()?.find(step.alloc, &element), step)
+        }
+        "copies" => {
+            let element = s.trees.element(step)?;
+            let plan = s.plans.last()?;
+            found(s.edits.last()?.copies(step.alloc, plan, &element), step)
         }
         "chain_edits" => {
-            let called = last(&mut s.chains)?.text_edits(s.alloc);
-            text_edits::keep(s, called, out)
+            let called = s.chains.last()?.text_edits(step.alloc);
+            keep(&mut s.trees, called, step)
         }
-        _ => text_edits::answer(s, name, words, out),
+        "cursors" => cursors(s, step),
+        _ => test_trees::answer(&mut s.trees, step),
     }
+}
+
+fn found(called: Result<Vec<SyntaxElement>, AllocError>, step: &mut Step) -> Done {
+    let found = asked(called, step)?;
+    step.put(if found.is_empty() { "" } else { "ok" });
+    Some(step.paths(&found))
 }
 
 // Answers a new root, which goes by the name of the next word then.
-fn keep_root(s: &mut Session, root: SyntaxNode, words: &mut Words, out: &mut Answer) -> Done {
-    out.root(&root);
-    s.trees.add(words.word()?, root)
+fn keep_root(s: &mut Session, root: SyntaxNode, step: &mut Step) -> Done {
+    step.root(&root);
+    let kept = s.trees.add(step.word(), root);
+    step.read(kept)
 }
 
 // Carries the last plan out as the next step of the last chain.
-fn step(s: &mut Session, words: &mut Words, out: &mut Answer) -> Done {
-    let plan = take(&mut s.plans)?;
-    let chain = last(&mut s.chains)?;
-    out.tried(chain.run(s.alloc, &mut s.ids, plan))?;
-    let root = chain.last_root().try_clone(s.alloc)?;
-    keep_root(s, root, words, out)
+fn next(s: &mut Session, step: &mut Step) -> Done {
+    let plan = s.plans.pop()?;
+    let chain = s.chains.last_mut()?;
+    tried(chain.run(step.alloc, &mut s.trees.ids, plan), step)?;
+    let root = made(chain.last_root().try_clone(step.alloc), step)?;
+    keep_root(s, root, step)
 }
 
 // The last chain goes behind the one before it, or is given back.
-fn join(s: &mut Session, out: &mut Answer) -> Done {
-    let other = take(&mut s.chains)?;
-    match last(&mut s.chains)?.then(other) {
-        Ok(()) => Ok(()),
+fn join(s: &mut Session, step: &mut Step) -> Done {
+    let other = s.chains.pop()?;
+    match s.chains.last_mut()?.then(other) {
+        Ok(()) => Some(()),
         Err((refusal, other)) => {
-            out.note(s.chains.push(other));
-            out.tried(Err(refusal))
+            step.note(s.chains.push(other));
+            tried(Err(refusal), step)
         }
     }
+}
+
+// Where the elements of an annotation in the last edit stand in the new text and in the text edits of the last plan.
+fn cursors(s: &mut Session, step: &mut Step) -> Done {
+    let edits = asked(s.plans.last()?.text_edits(step.alloc), step)?;
+    let annotation = annotation(step)?;
+    let called = s.edits.last()?.find_cursors(step.alloc, annotation, &edits);
+    let found = asked(called, step)?;
+    let mut before = "ok ";
+    for cursor in found.iter() {
+        say!(step, "{before}{}-{} ", cursor.start, cursor.end);
+        cursor.in_edit.show(step);
+        before = ", ";
+    }
+    Some(step.put(if found.is_empty() { "ok none" } else { "" }))
 }

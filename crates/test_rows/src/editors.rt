@@ -1,18 +1,20 @@
 //! Editors: new ones, the calls that record, what they have recorded, merged ones, and what finishing gives.
 
+use crate::asked::{annotation, annotation_of, asked};
 use crate::making::factory;
 use crate::plans;
-use crate::roots::{annotation, annotation_of, kind_in, typed};
-use crate::session::{Session, is_one_of, last, take};
-use crate::shown::{Answer, Done, say};
+use crate::session::Session;
 use cst_core::ast::{BlockExpr, Fn, LetStmt};
-use cst_core::{AstNode, SyntaxElement, SyntaxNode};
+use cst_core::{AstNode, SyntaxNode};
 use list_removal::remove_separated;
-use syntax_editor::{AttrsOwnerEdit, Change, Error, SyntaxEdit, SyntaxEditor};
-use test_trees::{NoAnswer, Words};
+use syntax_editor::{AttrsOwnerEdit, Error, SyntaxEdit, SyntaxEditor};
+use test_trees::{Done, NoAnswer, Step, change_text, deleted_paths, inserted, position, say};
 
 // What is told of an editor.
 const TOLD: &str = "check changes deleted deletions inserted fits text plain_text";
+
+// What is told of an edit.
+const TOLD_OF_EDIT: &str = "old_text new_text changed annotated find_element";
 
 // The calls that record.
 const RECORDED: &str =
@@ -20,59 +22,65 @@ const RECORDED: &str =
     replace_with_many replace_all add_annotation add_annotation_all remove_attrs_and_docs remove_separated";
 
 /// Takes the step of this name, or passes on what is none of these.
-pub fn answer(s: &mut Session, name: &str, words: &mut Words, out: &mut Answer) -> Done {
-    match name {
-        "new" => new(s, words, out),
-        "with_ast_node" => with_ast_node(s, words, out),
-        "factory" => Ok(*last(&mut s.editors)?.make_mut() = factory(s.alloc, words)?),
-        "clashes_with" => clashes_with(s, out),
-        "merge" => merge(s, out),
-        "finish" => {
-            let called = take(&mut s.editors)?.finish(s.alloc, &mut s.ids);
-            keep_edit(s, called, out)
+pub fn answer(s: &mut Session, step: &mut Step) -> Done {
+    match step.name {
+        "new" => {
+            let node = s.trees.node(step)?;
+            let called = SyntaxEditor::new(step.alloc, &mut s.trees.ids, node);
+            let (editor, root) = asked(called, step)?;
+            step.note(s.editors.push(editor));
+            Some(step.root(&root))
         }
-        "old_text" | "new_text" | "changed" | "annotated" => of_edit(s, name, words, out),
-        "find_element" => find_element(s, words, out),
-        _ if is_one_of(name, TOLD) => of_editor(s, name, words, out),
-        _ if is_one_of(name, RECORDED) => record(s, name, words, out),
-        _ => plans::answer(s, name, words, out),
+        "with_ast_node" => {
+            let block = s.trees.typed::<BlockExpr>(step)?;
+            let called = SyntaxEditor::with_ast_node(step.alloc, &mut s.trees.ids, &block);
+            let (editor, root) = asked(called, step)?;
+            step.note(s.editors.push(editor));
+            Some(step.root(root.syntax()))
+        }
+        "factory" => Some(*s.editors.last_mut()?.make_mut() = factory(step)?),
+        "clashes_with" => clashes_with(s, step),
+        "merge" => merge(s, step),
+        "finish" => {
+            let called = s.editors.pop()?.finish(step.alloc, &mut s.trees.ids);
+            keep_edit(s, called, step)
+        }
+        name if is_one_of(name, TOLD_OF_EDIT) => of_edit(s, step),
+        name if is_one_of(name, TOLD) => of_editor(s, step),
+        name if is_one_of(name, RECORDED) => record(s, step),
+        _ => plans::answer(s, step),
     }
 }
 
-fn new(s: &mut Session, words: &mut Words, out: &mut Answer) -> Done {
-    let node = s.trees.node(words)?;
-    let (editor, root) = out.asked(SyntaxEditor::new(s.alloc, &mut s.ids, node))?;
-    out.note(s.editors.push(editor));
-    Ok(out.root(&root))
-}
-
-fn with_ast_node(s: &mut Session, words: &mut Words, out: &mut Answer) -> Done {
-    let block = s.trees.typed::<BlockExpr>(words)?;
-    let (editor, root) = out.asked(SyntaxEditor::with_ast_node(s.alloc, &mut s.ids, &block))?;
-    out.note(s.editors.push(editor));
-    Ok(out.root(root.syntax()))
+fn is_one_of(name: &str, names: &str) -> bool {
+    for other in names.split(' ') {
+        if other == name {
+            return true;
+        }
+    }
+    false
 }
 
 // The first clash that there would be if the last editor went into the one before it.
-fn clashes_with(s: &mut Session, out: &mut Answer) -> Done {
+fn clashes_with(s: &mut Session, step: &mut Step) -> Done {
     let [.., own, other] = s.editors.as_slice() else {
-        return Err(NoAnswer::Row("no two editors were made"));
+        return step.end_by(NoAnswer::Row("no two editors were made"));
     };
-    match out.asked(own.clashes_with(s.alloc, other))? {
-        Some((first, second)) => say!(out, "ok {first} {second}"),
-        None => out.word("none"),
+    match asked(own.clashes_with(step.alloc, other), step)? {
+        Some((first, second)) => say!(step, "ok {first} {second}"),
+        None => step.put("none"),
     }
-    Ok(())
+    Some(())
 }
 
 // The last editor goes into the one before it, or is given back.
-fn merge(s: &mut Session, out: &mut Answer) -> Done {
-    let other = take(&mut s.editors)?;
-    match last(&mut s.editors)?.merge(s.alloc, other) {
-        Ok(()) => Ok(()),
+fn merge(s: &mut Session, step: &mut Step) -> Done {
+    let other = s.editors.pop()?;
+    match s.editors.last_mut()?.merge(step.alloc, other) {
+        Ok(()) => Some(()),
         Err((refusal, other)) => {
-            out.note(s.editors.push(other));
-            out.asked(Err(refusal))
+            step.note(s.editors.push(other));
+            asked(Err(refusal), step)
         }
     }
 }
@@ -81,152 +89,130 @@ fn merge(s: &mut Session, out: &mut Answer) -> Done {
 pub fn keep_edit<E: Into<Error>>(
     s: &mut Session,
     called: Result<SyntaxEdit, E>,
-    out: &mut Answer,
+    step: &mut Step,
 ) -> Done {
-    let edit = out.asked(called)?;
-    out.root(edit.new_root());
-    Ok(out.note(s.edits.push(edit)))
+    let edit = asked(called, step)?;
+    step.root(edit.new_root());
+    Some(step.note(s.edits.push(edit)))
 }
 
-// The text of the old root of the last edit, that of the new one, or the paths of changed elements, or of those with
-// an annotation.
-fn of_edit(s: &mut Session, name: &str, words: &mut Words, out: &mut Answer) -> Done {
-    let edit = last(&mut s.edits)?;
-    match name {
-        "old_text" => Ok(out.made_text(edit.old_root().text(s.alloc))),
-        "new_text" => Ok(out.made_text(edit.new_root().text(s.alloc))),
-        "changed" => Ok(out.paths(edit.changed_elements())),
-        _ => match annotation(words) {
-            Some(annotation) => Ok(out.paths(edit.find_annotation(annotation))),
-            None => Err(NoAnswer::Arguments),
-        },
+// The text of the old root of the last edit, that of the new one, the paths of changed elements, or of those with an
+// annotation, or what an element of the old tree became.
+fn of_edit(s: &mut Session, step: &mut Step) -> Done {
+    let edit = s.edits.last()?;
+    match step.name {
+        "old_text" => step.made_text(edit.old_root().text(step.alloc)),
+        "new_text" => step.made_text(edit.new_root().text(step.alloc)),
+        "changed" => step.paths(edit.changed_elements()),
+        "annotated" => {
+            let annotation = annotation(step)?;
+            step.paths(edit.find_annotation(annotation));
+        }
+        _ => {
+            let old = s.trees.node(step)?;
+            match asked(edit.find_element(step.alloc, &old), step)? {
+                Some(node) => step.root_at(&node),
+                None => step.put("none"),
+            }
+        }
     }
-}
-
-fn find_element(s: &mut Session, words: &mut Words, out: &mut Answer) -> Done {
-    let edit = last(&mut s.edits)?;
-    let old = s.trees.node(words)?;
-    match out.asked(edit.find_element(s.alloc, &old))? {
-        Some(node) => Ok(out.root_at(&node)),
-        None => Ok(out.word("none")),
-    }
+    Some(())
 }
 
 // What is told of the last editor and of its changes, also of one by its number.
-fn of_editor(s: &mut Session, name: &str, words: &mut Words, out: &mut Answer) -> Done {
-    let editor = last(&mut s.editors)?;
+fn of_editor(s: &mut Session, step: &mut Step) -> Done {
+    let editor = s.editors.last()?;
     let changes = editor.changes();
-    match name {
-        "check" => out.asked(editor.check(s.alloc)),
-        "changes" => Ok(out.print(&changes.len())),
-        "deletions" => Ok(deleted_paths(changes, out)),
-        "inserted" => Ok(inserted(changes, out)),
-        "deleted" => deleted(editor, &s.trees.element(words)?, out),
-        "fits" => fits(changes, &s.trees.node(words)?, out),
-        _ => text(changes, name, words.number()?, out),
-    }
-}
-
-/// The paths of what changes delete, one element each, in the order of the changes.
-pub fn deleted_paths(changes: &[Change], out: &mut Answer) {
-    for change in changes {
-        if let Change::Replace(element, None) = change {
-            out.next_path(element);
+    match step.name {
+        "check" => return asked(editor.check(step.alloc), step),
+        "changes" => step.print(&changes.len()),
+        "deletions" => deleted_paths(changes, step),
+        "inserted" => inserted(changes, step),
+        "deleted" => {
+            let element = s.trees.element(step)?;
+            let is_deleted = asked(editor.deleted(step.alloc, &element), step)?;
+            step.truth(is_deleted);
         }
-    }
-    out.none_if_empty();
-}
-
-// What the last change inserts, if that is several elements: the text of each, and the number of its tree.
-fn inserted(changes: &[Change], out: &mut Answer) {
-    if let Some(Change::InsertAll(_, elements)) = changes.last() {
-        for element in elements.as_slice() {
-            out.between(", ");
-            out.made_text(element.text(out.alloc));
-            say!(out, " of {}", element.tree());
+        "fits" => {
+            let Ok(root) = s.trees.node(step)?.tree_top(step.alloc) else {
+                return step.end_by(NoAnswer::Memory);
+            };
+            step.truth(changes.first()?.fits(&root));
         }
+        _ => return change_text(changes.get(step.number::<usize>())?, step),
     }
-    out.none_if_empty();
-}
-
-fn deleted(editor: &SyntaxEditor, element: &SyntaxElement, out: &mut Answer) -> Done {
-    let is_deleted = out.asked(editor.deleted(out.alloc, element))?;
-    Ok(out.truth(is_deleted))
-}
-
-// Whether the first change is one of the tree that the node is of.
-fn fits(changes: &[Change], node: &SyntaxNode, out: &mut Answer) -> Done {
-    let change = changes.first().ok_or(NoAnswer::Row("no change"))?;
-    let root = node.tree_top(out.alloc)?;
-    Ok(out.truth(change.fits(&root)))
-}
-
-// The text that shows a change, by its number, with \e for the byte ESC; and the same without the escape sequences.
-fn text(changes: &[Change], name: &str, number: usize, out: &mut Answer) -> Done {
-    let change = changes.get(number).ok_or(NoAnswer::Arguments)?;
-    let text = match name {
-        "text" => out.asked(change.text(out.alloc))?,
-        _ => out.asked(change.plain_text(out.alloc))?,
-    };
-    out.given(&text);
-    Ok(out.text = out.text.replace(out.alloc, '\x1b', "\\e")?)
+    Some(())
 }
 
 // By a call of the last editor.
-fn record(s: &mut Session, name: &str, words: &mut Words, out: &mut Answer) -> Done {
-    let (alloc, trees) = (s.alloc, &s.trees);
-    let editor = last(&mut s.editors)?;
-    match name {
-        "insert" => out.asked(editor.insert(alloc, trees.position(words)?, trees.element(words)?)),
+fn record(s: &mut Session, step: &mut Step) -> Done {
+    let (alloc, trees) = (step.alloc, &s.trees);
+    let editor = s.editors.last_mut()?;
+    match step.name {
+        "delete" => asked(editor.delete(alloc, trees.element(step)?), step),
+        "add_annotation_all" => {
+            let (elements, first) = (trees.others(step)?, annotation_of("1")?);
+            asked(editor.add_annotation_all(alloc, elements, first), step)
+        }
+        "remove_attrs_and_docs" => remove_attrs_and_docs(editor, trees.node(step)?, step),
+        name if name.starts_with("insert") => insert(s, step),
+        _ => record_at(s, step),
+    }
+}
+
+// By a call that takes a position first.
+fn insert(s: &mut Session, step: &mut Step) -> Done {
+    let alloc = step.alloc;
+    let editor = s.editors.last_mut()?;
+    let at = position(&s.trees, step)?;
+    match step.name {
+        "insert" => asked(editor.insert(alloc, at, s.trees.element(step)?), step),
+        "insert_all" => asked(editor.insert_all(alloc, at, s.trees.others(step)?), step),
         "insert_with_whitespace" => {
-            let (at, new) = (trees.position(words)?, trees.element(words)?);
-            out.asked(editor.insert_with_whitespace(alloc, &mut s.ids, at, new))
+            let new = s.trees.element(step)?;
+            let called = editor.insert_with_whitespace(alloc, &mut s.trees.ids, at, new);
+            asked(called, step)
         }
-        "insert_all" => {
-            let (at, new) = (trees.position(words)?, trees.others(words)?);
-            out.asked(editor.insert_all(alloc, at, new))
+        _ => {
+            let new = s.trees.others(step)?;
+            let called = editor.insert_all_with_whitespace(alloc, &mut s.trees.ids, at, new);
+            asked(called, step)
         }
-        "insert_all_with_whitespace" => {
-            let (at, new) = (trees.position(words)?, trees.others(words)?);
-            out.asked(editor.insert_all_with_whitespace(alloc, &mut s.ids, at, new))
-        }
-        "delete" => out.asked(editor.delete(alloc, trees.element(words)?)),
-        "add_annotation_all" => match annotation_of("1") {
-            Some(it) => out.asked(editor.add_annotation_all(alloc, trees.others(words)?, it)),
-            None => Err(NoAnswer::Arguments),
-        },
-        "remove_attrs_and_docs" => remove_attrs_and_docs(editor, trees.node(words)?, out),
-        _ => record_at(s, name, words, out),
     }
 }
 
 // By a call that takes an element first.
-fn record_at(s: &mut Session, name: &str, words: &mut Words, out: &mut Answer) -> Done {
-    let (alloc, trees) = (s.alloc, &s.trees);
-    let editor = last(&mut s.editors)?;
-    let target = trees.element(words)?;
-    match name {
-        "delete_all" => out.asked(editor.delete_all(alloc, target, trees.element(words)?)),
-        "replace" => out.asked(editor.replace(alloc, target, trees.element(words)?)),
+fn record_at(s: &mut Session, step: &mut Step) -> Done {
+    let (alloc, trees) = (step.alloc, &s.trees);
+    let editor = s.editors.last_mut()?;
+    let target = trees.element(step)?;
+    match step.name {
+        "delete_all" => asked(editor.delete_all(alloc, target, trees.element(step)?), step),
+        "replace" => asked(editor.replace(alloc, target, trees.element(step)?), step),
         "replace_with_many" => {
-            out.asked(editor.replace_with_many(alloc, target, trees.others(words)?))
+            let called = editor.replace_with_many(alloc, target, trees.others(step)?);
+            asked(called, step)
         }
         "replace_all" => {
-            let end = trees.element(words)?;
-            out.asked(editor.replace_all(alloc, target, end, trees.others(words)?))
+            let (end, new) = (trees.element(step)?, trees.others(step)?);
+            asked(editor.replace_all(alloc, target, end, new), step)
         }
-        "add_annotation" => match annotation(words) {
-            Some(annotation) => out.asked(editor.add_annotation(alloc, target, annotation)),
-            None => Err(NoAnswer::Arguments),
-        },
-        _ => out.asked(remove_separated(alloc, editor, &target, kind_in(words)?)),
+        "add_annotation" => asked(
+            editor.add_annotation(alloc, target, annotation(step)?),
+            step,
+        ),
+        _ => asked(remove_separated(alloc, editor, &target, step.kind()), step),
     }
 }
 
 // Of a function or a statement.
-fn remove_attrs_and_docs(editor: &mut SyntaxEditor, node: SyntaxNode, out: &mut Answer) -> Done {
+fn remove_attrs_and_docs(editor: &mut SyntaxEditor, node: SyntaxNode, step: &mut Step) -> Done {
     if Fn::can_cast(node.kind()) {
-        return out.asked(typed::<Fn>(node)?.remove_attrs_and_docs(out.alloc, editor));
+        return asked(
+            Fn::cast(node)?.remove_attrs_and_docs(step.alloc, editor),
+            step,
+        );
     }
-    out.asked(typed::<LetStmt>(node)?.remove_attrs_and_docs(out.alloc, editor))
+    let called = LetStmt::cast(node)?.remove_attrs_and_docs(step.alloc, editor);
+    asked(called, step)
 }

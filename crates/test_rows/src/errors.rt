@@ -1,16 +1,13 @@
 //! What errors print, and the sentences that say what to do.
 
-use crate::shown::{Answer, Done, say};
-use cst_core::{SyntaxKind, TreeError};
+use cst_core::TreeError;
 use edit_chain::ChainError;
 use std::alloc::AllocError;
 use syntax_editor::{
     EditError, EngineError, Error, ExecuteError, IndentError, MapError, MergeError, RecordError,
     WrapError,
 };
-use test_trees::{NoAnswer, Words};
-use text_edit::{ApplyError, ComposeError, OrderError};
-use tree_text::{Expected, ExpressionError, NameError, WriteError};
+use test_trees::{NoAnswer, Step, errors_of, print_errors, say, say_errors};
 
 // The refusals of calls of the editor, each by the error that it holds, and others.
 macro_rules! refusals {
@@ -37,62 +34,44 @@ const EDITOR: &[Error] = refusals! {
     ]
 };
 
-// What the errors of one type print, and their sentences, case by case.
-macro_rules! tell {
-    ($out:ident, $type:ident:
-        $($case:ident $(($held:expr))? $({ $($field:ident: $value:expr),* })?),*) => {{
-        let errors = [$($type::$case $(($held))? $({ $($field: $value),* })?),*];
-        for error in errors.iter() {
-            $out.between(" | ");
-            say!($out, "{error}: {}", error.help());
-        }
-    }};
-}
+const ENGINE: &[EngineError] = errors_of!(EngineError: TooLong, Memory);
+
+const CHAIN: &[ChainError] =
+    errors_of!(ChainError: OtherRoot, TooLong, NoTreeNumber, Unfit { step: 1 }, Memory);
 
 /// Of the errors of the type that is named, one after another.
-pub fn answer(words: &mut Words, out: &mut Answer) -> Done {
-    match words.word()? {
-        "Engine" => tell!(out, EngineError: TooLong, Memory),
-        "Expression" => tell! { out, ExpressionError:
-            Malformed { at: 12, expected: Expected::KindName }, UnknownKind { at: 1 }, TooDeep { at: 201 },
-            Tree(TreeError::NoTreeNumber), Memory
-        },
-        "Write" => tell!(out, WriteError: NoName(SyntaxKind(65)), Memory),
-        "Name" => tell!(out, NameError: Misspelled, Named, Taken, Memory),
-        "Order" => tell! { out, OrderError: StartAfterEnd { index: 1 }, PastEnd { index: 2 },
-            OutOfOrder { index: 3 }, Overlapping { index: 4 }
-        },
-        "Apply" =>
-            tell!(out, ApplyError: PastEnd { index: 1 }, InsideCharacter { index: 2 }, TooLong, Memory),
-        "Compose" =>
-            tell!(out, ComposeError: InsideCharacter { index: 1 }, TooLong { index: 2 }, Memory),
-        "Chain" =>
-            tell! { out, ChainError: OtherRoot, TooLong, NoTreeNumber, Unfit { step: 1 }, Memory },
+pub fn print(step: &mut Step) {
+    match step.word() {
+        "Engine" => say_errors!(step, ENGINE),
+        "Chain" => say_errors!(step, CHAIN),
         "AllocError" => {
             let (any, of_trees) = (Error::from(AllocError), TreeError::from(AllocError));
             say!(
-                out,
+                step,
                 "{any}: {} | {of_trees}: {}",
                 any.help(),
                 of_trees.help()
             );
         }
-        "NoAnswer" => out.print(&NoAnswer::from(ExpressionError::Memory)),
-        case => of_editor(case, out),
+        name => {
+            of_editor(name, step);
+            if step.text.is_empty() {
+                print_errors(name, step);
+            }
+        }
     }
-    Ok(())
 }
 
 // Of those that hold an error of this type, or are of this case.
-fn of_editor(case: &str, out: &mut Answer) {
+fn of_editor(name: &str, step: &mut Step) {
     for error in EDITOR {
-        match format!(in out.alloc; "{error:?}") {
-            Ok(name) if name.starts_with(case) => {
-                out.between(" | ");
-                say!(out, "{error}: {}", error.help());
+        match format!(in step.alloc; "{error:?}") {
+            Ok(case) if case.starts_with(name) => {
+                step.between(" | ");
+                say!(step, "{error}: {}", error.help());
             }
             Ok(_) => (),
-            Err(_) => out.stop(NoAnswer::Memory),
+            Err(_) => step.stop(NoAnswer::Memory),
         }
     }
 }

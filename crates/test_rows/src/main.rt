@@ -5,40 +5,54 @@
 //! The head of the table (`stdin`, beside this folder) says how a line is written, and docs/ROWS.md how to add one.
 #![tactic(auto)]
 
+mod asked;
 mod chains;
 mod editors;
-mod elements;
 mod errors;
 mod indents;
-mod line;
 mod making;
 mod plans;
-mod roots;
-mod row;
-mod run;
+mod runs;
 mod session;
-mod shown;
 mod standing;
-mod text_edits;
-mod texts;
-mod values;
 
-use crate::run::{REFUSED, Run};
-use std::io;
+use crate::session::Session;
 use std::io::ErrorKind;
 use std::process::ExitCode;
+use std::rt::Files;
+use std::{fs, io};
+use test_trees::{REFUSED, Run};
 
 fn main(rt: HostRuntime) -> io::Result<ExitCode> {
     let alloc = rt.alloc();
-    let mut run = Run::new(alloc);
+    let mut run = Run::new(alloc, Session::new(alloc));
     for line in rt.lines(alloc) {
         // The line was not read because memory ran out.
         if matches!(&line, Err(error) if error.kind() == ErrorKind::OutOfMemory) {
             return Ok(ExitCode::from(REFUSED));
         }
         if !run.is_cut {
-            run.take_line(&rt, line?.as_str())?;
+            take_line(&rt, &mut run, line?.as_str())?;
         }
     }
-    run.close(&rt)
+    let status = run.close();
+    print!(rt; "{}", run.said)?;
+    Ok(ExitCode::from(status))
+}
+
+// Takes a line of the table, and all lines of the group that it stands for, and prints what is said of them.
+fn take_line<R: Print + Files + AllocGlobal>(
+    rt: &R,
+    run: &mut Run<Session>,
+    text: &str,
+) -> io::Result<()> {
+    if let Some(name) = run.take_line(text) {
+        let file = format!(in rt.alloc(); "{name}.rows")?;
+        match fs::read_to_string(rt, file.as_str()) {
+            Ok(lines) => run.take_group(name, lines.as_str()),
+            Err(_) => run.note_wrong(text, "its file is not there"),
+        }
+    }
+    print!(rt; "{}", run.said)?;
+    Ok(run.said.clear())
 }

@@ -2,28 +2,34 @@
 
 use cst_core::TreeError;
 use std::alloc::{AllocError, AllocFailed};
-use thiserror::Error;
 use tree_text::ExpressionError;
 
 /// Why a row of a table has no answer, or which refusal is its answer.
-#[derive(Clone, Copy, Debug, Error)]
+#[derive(Clone, Copy)]
 pub enum NoAnswer {
     /// The row asks for what is not there: this.
-    #[error("{0}")]
     Row(&'static str),
-    #[error("there are too few words, too many, or one that means nothing there")]
+    /// There are too few words, too many, or one that means nothing there.
     Arguments,
-    #[error("a node or a token stands where the other was asked for")]
-    Form,
     /// It was refused to what asks, and to no call that is asked about.
-    #[error("Memory")]
     Memory,
     /// The call that is asked about is refused, and its refusal is written. If memory is there, that is the answer.
-    #[error("a call is refused")]
     Refusal,
-    /// The call of this name is asked about.
-    #[error("{0} is refused for want of memory")]
+    /// The call of this name is asked about, and was refused for want of memory.
     Refused(&'static str),
+}
+
+impl NoAnswer {
+    pub fn why(self) -> &'static str {
+        match self {
+            NoAnswer::Row(why) => why,
+            NoAnswer::Refused(call) => call,
+            NoAnswer::Arguments =>
+                "there are too few words, too many, or one that means nothing there",
+            NoAnswer::Memory => "Memory",
+            NoAnswer::Refusal => "a call is refused",
+        }
+    }
 }
 
 impl From<TreeError> for NoAnswer {

@@ -60,10 +60,12 @@ fn all_rows(alloc: Global) -> Result<Vec<NamedRow>, NoAnswer> {
 }
 
 fn row_of<'a>(rows: &'a [NamedRow], name: &str) -> Result<&'a str, NoAnswer> {
-    match rows.iter().find(|row| row.0 == name) {
-        Some(row) => Ok(&row.1),
-        None => Err(NoAnswer::Row("UnknownRow")),
+    for (known, expression) in rows {
+        if *known == name {
+            return Ok(expression);
+        }
     }
+    Err(NoAnswer::Row("UnknownRow"))
 }
 
 // The expression with those of these rows in the places of their names, which stand outside of its texts.

@@ -1,57 +1,9 @@
-//! The words that rows of tests are written in, and how paths and texts are written in answers.
+//! The words, paths and texts that rows of tests are written in, and how answers write them.
 
 use crate::no_answer::NoAnswer;
 use std::alloc::{AllocError, Global};
 use std::str::FromStr;
 use tree_text::push_escaped;
-
-/// What is left of a text. Any number of spaces may stand between its words.
-#[derive(Clone, Copy)]
-pub struct Words<'a> {
-    rest: &'a str,
-}
-
-impl<'a> Words<'a> {
-    pub fn of(text: &'a str) -> Words<'a> {
-        let rest = text.trim_start_matches(' ');
-        Words { rest }
-    }
-
-    /// The next word, if there is one.
-    pub fn next(&mut self) -> Option<&'a str> {
-        if self.rest.is_empty() {
-            return None;
-        }
-        let (word, rest) = first_word(self.rest);
-        self.rest = rest.trim_start_matches(' ');
-        Some(word)
-    }
-
-    /// The next word, which must be there.
-    pub fn word(&mut self) -> Result<&'a str, NoAnswer> {
-        self.next().ok_or(NoAnswer::Arguments)
-    }
-
-    /// The next word as a number.
-    pub fn number<T: FromStr>(&mut self) -> Result<T, NoAnswer>
-    where
-        T::Err: Drop,
-    {
-        number_of(self.word()?)
-    }
-
-    /// All that is left, as it stands.
-    pub fn take_rest(&mut self) -> &'a str {
-        let rest = self.rest;
-        self.rest = "";
-        rest
-    }
-
-    /// Whether nothing is left.
-    pub fn is_empty(&self) -> bool {
-        self.rest.is_empty()
-    }
-}
 
 /// The first word, and what stands after the space after it.
 pub fn first_word(text: &str) -> (&str, &str) {
@@ -69,7 +21,10 @@ where
 /// The slots of a path, as `1/0`; those of a root are `.`, and `1x5000` is slot 1 so many times.
 pub fn slots_of(alloc: Global, path: &str) -> Result<Vec<usize>, NoAnswer> {
     let mut slots = Vec::new(alloc);
-    for part in path.split('/').filter(|part| *part != ".") {
+    for part in path.split('/') {
+        if part == "." {
+            continue;
+        }
         let (digits, times) = part.split_once('x').unwrap_or((part, "1"));
         let slot = number_of(digits)?;
         for _ in 0..number_of::<usize>(times)? {
@@ -122,4 +77,31 @@ pub fn push_quoted(out: &mut String, text: &str) -> Result<(), AllocError> {
     out.push('"')?;
     push_escaped(out, text)?;
     out.push('"')
+}
+
+/// What a text between quotes stands for: `\n`, `\r`, `\t`, `\"` and `\\` are escapes.
+pub fn unquote(alloc: Global, quoted: &str) -> Result<String, NoAnswer> {
+    let inner = quoted.strip_prefix('"').ok_or(NoAnswer::Arguments)?;
+    let inner = inner.strip_suffix('"').ok_or(NoAnswer::Arguments)?;
+    let mut text = String::new(alloc);
+    let mut is_escaped = false;
+    for c in inner.chars() {
+        match c {
+            '\\' if !is_escaped => (),
+            _ if is_escaped => text.push(unescape(c)?)?,
+            _ => text.push(c)?,
+        }
+        is_escaped = c == '\\' && !is_escaped;
+    }
+    Ok(text)
+}
+
+fn unescape(c: char) -> Result<char, NoAnswer> {
+    match c {
+        'n' => Ok('\n'),
+        'r' => Ok('\r'),
+        't' => Ok('\t'),
+        '"' | '\\' => Ok(c),
+        _ => Err(NoAnswer::Arguments),
+    }
 }

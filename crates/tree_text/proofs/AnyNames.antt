@@ -25,11 +25,12 @@ more-reading r h more m = record {
 pub own-names : (r : Reading) → IsReading r → KeepsNames r.given r.given
 own-names r h = record { names = h.names; keeps = λ k n is. is }
 
-pub with-any : (old : Reading) (bytes past : List ℕ) (new : Reading) → IsReading old → new.given ≡ old.given → unread old ++ bytes ≡ past ++ unread new → Opens old past new
+pub with-any : (old : Reading) (bytes past : List ℕ) (new : Reading) → IsReading old → new.given ≡ old.given → new.limit ≡ old.limit → unread old ++ bytes ≡ past ++ unread new → Opens old past new
     → ((more : List KindName) → KeepsNames old.given more → PlainReads (with_names more old) past (with_names more new)) → Reads old bytes new
-with-any old bytes past new h names is opens each = record {
+with-any old bytes past new h names limit is opens each = record {
   sound = subst (λ given. IsReading (with_names given new)) (sym names) (each old.given (own-names old h)).sound;
   names = names;
+  limit = limit;
   past = past;
   is = is;
   opens = opens;

@@ -143,15 +143,15 @@ module _ (r : Reading) (h : IsReading r) (c : ℕ) (between : r.state ≡ Betwee
 
   pub opens : c ≡ 40 → is_outside r c ≡ false → Reads r (encode_utf8 c) (record r { state = NodeKind })
   opens is inside =
-      with-any r (encode_utf8 c) (encode_utf8 c) (record r { state = NodeKind }) h refl (all-unread r.word (no-word r h c between)) (λ node. inl (opened is inside)) (λ more m. plain-opens (with_names more r) (more-reading r h more m) c between is inside)
+      with-any r (encode_utf8 c) (encode_utf8 c) (record r { state = NodeKind }) h refl refl (all-unread r.word (no-word r h c between)) (λ node. inl (opened is inside)) (λ more m. plain-opens (with_names more r) (more-reading r h more m) c between is inside)
 
   pub a-gap : is_gap r.gaps c ≡ true → is_outside r c ≡ false → Reads r (encode_utf8 c) r
   a-gap gap inside =
-      with-any r (encode_utf8 c) (encode_utf8 c) r h refl (all-unread (unread r) (no-unread r h c between)) (λ node. absurd (no-node (sym between ∙ node))) (λ more m. plain-gap (with_names more r) (more-reading r h more m) c between gap inside)
+      with-any r (encode_utf8 c) (encode_utf8 c) r h refl refl (all-unread (unread r) (no-unread r h c between)) (λ node. absurd (no-node (sym between ∙ node))) (λ more m. plain-gap (with_names more r) (more-reading r h more m) c between gap inside)
 
   pub begins-name : is_name_byte c ≡ true → is_outside r c ≡ false → Reads r (encode_utf8 c) (record r { state = TokenKind; word = r.word ++ encode_utf8 c })
   begins-name name inside =
-      with-any r (encode_utf8 c) [] (record r { state = TokenKind; word = r.word ++ encode_utf8 c }) h refl (ap (λ x. x ++ encode_utf8 c) (no-unread r h c between ∙ sym (no-word r h c between))) (λ node. cc)
+      with-any r (encode_utf8 c) [] (record r { state = TokenKind; word = r.word ++ encode_utf8 c }) h refl refl (ap (λ x. x ++ encode_utf8 c) (no-unread r h c between ∙ sym (no-word r h c between))) (λ node. cc)
       (λ more m. plain-begins (with_names more r) (more-reading r h more m) c between name inside)
 
   pub stuck-outside : is_outside r c ≡ true → CannotGoOn r (encode_utf8 c)

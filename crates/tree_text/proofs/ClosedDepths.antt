@@ -1,11 +1,11 @@
 -- How deep a tree is that closing all open nodes gives.
 --     close-within        one that is no deeper than the open nodes are
 --     full                where the open nodes are as deep as their list says
-use Rattle.std.proofs.Common.{◌≡◌, ℕ, suc, ◌≤◌, Bool, false, List, [], ◌∷◌, ◌++◌, append-nil, length, map, Option, refl, sym, ap, ◌∙◌, subst, arith}
+use Rattle.std.proofs.Common.{◌≡◌, ℕ, suc, ◌<◌, ◌≤◌, Bool, false, List, [], ◌∷◌, ◌++◌, append-nil, length, map, Option, refl, sym, ap, ◌∙◌, subst, arith}
 use Rattle.std.specs.Prelude.{max}
 use Rattle.std.proofs.lemmas.List.{length-reverse, reverse-append}
 use Rattle.cst_core.specs.Tree.{SyntaxTree, node, forest, is_token}
-use Rattle.tree_text.specs.Depth.{depth, depth_limit, forest_depth}
+use Rattle.tree_text.specs.Depth.{depth, forest_depth}
 use Rattle.tree_text.specs.Grammar.{begins_with_name_byte}
 use Rattle.tree_text.specs.inner.Completing.{OpenTree, IsAfter, IsFrom}
 use Rattle.tree_text.specs.inner.OpenDepth.{closed_depth, open_depth, IsFull}
@@ -62,11 +62,11 @@ module _ (names : ℕ → Option (List ℕ)) (gaps : ℕ → Bool) where
         closed.3,
       )
 
-  pub close-within : (ns : List OpenTree) → IsFull ns → (t : SyntaxTree) × (w : List ℕ) × (begins_with_name_byte w ≡ false) × IsFrom names gaps ns t w × (depth t ≤ depth_limit)
-  close-within [] full' = let some = full'.0 in absurd (omega (arith, some))
-  close-within (n ∷ outer) full' =
+  pub close-within : (limit : ℕ) (ns : List OpenTree) → IsFull limit ns → (t : SyntaxTree) × (w : List ℕ) × (begins_with_name_byte w ≡ false) × IsFrom names gaps ns t w × (depth t ≤ limit)
+  close-within limit [] full' = absurd (omega (arith, full'.0, full'.1))
+  close-within limit (n ∷ outer) full' =
       let closed = close-node-within n.0 n.1 outer in
-      let limited = full'.1 in
+      let limited = full'.2 in
       let below = closed.4 in
       (closed.0, closed.1, closed.2, closed.3, omega (arith, limited, below))
 
@@ -86,7 +86,7 @@ mapped-length : (ns : List OpenNode) → length (map open_tree ns) ≡ length ns
 mapped-length [] = refl
 mapped-length (n ∷ ns) = ap suc (mapped-length ns)
 
-pub full : (ns : List OpenNode) → depth_limit ≤ length ns → open_depth ns ≤ depth_limit → IsFull (open_trees ns)
-full ns many limited =
+pub full : (limit : ℕ) (ns : List OpenNode) → 0 < limit → limit ≤ length ns → open_depth ns ≤ limit → IsFull limit (open_trees ns)
+full limit ns some many limited =
     let same : length (open_trees ns) ≡ length ns = length-reverse (map open_tree ns) ∙ mapped-length ns in
-    (subst (λ n. depth_limit ≤ n) (sym same) many, subst (λ d. d ≤ depth_limit) (sym (closed-open ns)) limited)
+    (some, subst (λ n. limit ≤ n) (sym same) many, subst (λ d. d ≤ limit) (sym (closed-open ns)) limited)

@@ -11,10 +11,10 @@ use Rattle.std.specs.List.{list_all}
 use Rattle.std.proofs.lemmas.Bool.{and_parts, false≢true}
 use Rattle.std.proofs.lemmas.List.Folds.{list_all-append}
 use Rattle.cst_core.specs.Tree.{SyntaxTree}
-use Rattle.tree_text.specs.Depth.{depth, depth_limit}
+use Rattle.tree_text.specs.Depth.{depth}
 use Rattle.tree_text.specs.Grammar.{IsExpression}
 use Rattle.tree_text.specs.KindNames.{KindName, AreNames, is_name_byte, name_in}
-use Rattle.tree_text.specs.Refusals.{KeepsNames, Begins, MayGoOn, IsMalformed, IsTooDeep, LacksName}
+use Rattle.tree_text.specs.Refusals.{KeepsNames, Begins, MayGoOn, IsMalformed, IsTooDeepFor, LacksName}
 use Rattle.tree_text.proofs.FreshKinds.{one-more}
 
 pub record Longer (p x q y : List ℕ) : Type 0 where
@@ -123,7 +123,7 @@ module _ (given : List KindName) (gaps : ℕ → Bool) where
   pub malformed-never : (w : List ℕ) (i : ℕ) → IsMalformed given gaps w i → (more : List KindName) → KeepsNames given more → (t : SyntaxTree) → IsExpression (name_in more) gaps t w → ⊥
   malformed-never w i m = not-whole w (m.front ++ m.name) m.rest m.is m.stops
 
-  module _ (w : List ℕ) (i j : ℕ) (m : IsTooDeep given gaps w i) (n : IsTooDeep given gaps w j) where
+  module _ (limit : ℕ) (w : List ℕ) (i j : ℕ) (m : IsTooDeepFor limit given gaps w i) (n : IsTooDeepFor limit given gaps w j) where
     -- before the later parenthesis an expression of a tree that isn't too deep has begun
     behind : (l : List ℕ) → n.front ≡ (m.front ++ codes "(") ++ l → ⊥
     behind l is =
@@ -147,17 +147,17 @@ module _ (given : List KindName) (gaps : ℕ → Bool) where
         by [] is' rest = absurd (behind [] (sym (append-nil n.front) ∙ sym is' ∙ sym (append-nil (m.front ++ codes "("))))
         by (x ∷ y) is' rest = let none : [] ≡ y ++ b ∷ z = cc in absurd (nothing y none)
 
-  pub deep-once : (w : List ℕ) (i j : ℕ) → IsTooDeep given gaps w i → IsTooDeep given gaps w j → i ≡ j
-  deep-once w i j m n = elim (split-two (m.front ++ codes "(") m.rest (n.front ++ codes "(") n.rest (sym m.is ∙ n.is)) [
-    | inl further ↦ not-deeper w i j m n further.between further.is
-    | inr further ↦ sym (not-deeper w j i n m further.between further.is)
+  pub deep-once : (limit : ℕ) (w : List ℕ) (i j : ℕ) → IsTooDeepFor limit given gaps w i → IsTooDeepFor limit given gaps w j → i ≡ j
+  deep-once limit w i j m n = elim (split-two (m.front ++ codes "(") m.rest (n.front ++ codes "(") n.rest (sym m.is ∙ n.is)) [
+    | inl further ↦ not-deeper limit w i j m n further.between further.is
+    | inr further ↦ sym (not-deeper limit w j i n m further.between further.is)
   ]
 
   pub lacking-never : (w : List ℕ) (i : ℕ) → LacksName given gaps w i → (t : SyntaxTree) → IsExpression (name_in given) gaps t w → ⊥
   lacking-never w i l t whole = l.stops t (l.next ∷ l.rest) l.ends (subst (IsExpression (name_in given) gaps t) l.is whole)
 
-  pub deep-never : (w : List ℕ) (i : ℕ) → IsTooDeep given gaps w i → (t : SyntaxTree) → IsExpression (name_in given) gaps t w → depth t ≤ depth_limit → ⊥
-  deep-never w i d t whole limited = let deep = d.only t d.rest (subst (IsExpression (name_in given) gaps t) d.is whole) in omega (arith, deep, limited)
+  pub deep-never : (limit : ℕ) (w : List ℕ) (i : ℕ) → IsTooDeepFor limit given gaps w i → (t : SyntaxTree) → IsExpression (name_in given) gaps t w → depth t ≤ limit → ⊥
+  deep-never limit w i d t whole limited = let deep = d.only t d.rest (subst (IsExpression (name_in given) gaps t) d.is whole) in omega (arith, deep, limited)
 
   pub malformed-once : (w : List ℕ) (i j : ℕ) → IsMalformed given gaps w i → IsMalformed given gaps w j → i ≡ j
   malformed-once w i j m n = elim (split-two (m.front ++ m.name) m.rest (n.front ++ n.name) n.rest (sym m.is ∙ n.is)) [

@@ -13,6 +13,7 @@ pub mod Joining
 pub mod Leaving
 pub mod NameSteps
 pub mod Names
+pub mod KeptNames
 pub mod NamedTrees
 pub mod OneTree
 pub mod OpenRests

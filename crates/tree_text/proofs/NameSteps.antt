@@ -71,8 +71,8 @@ with_node r k = record r { nodes = (k, []) ∷ r.nodes; state = Between; word = 
 abbrev between : Reading → List OpenTree → Reading
 between r nodes = record r { nodes = nodes; state = Between }
 
-pub begun : (r taken : Reading) (nodes : List OpenTree) (k : ℕ) → taken ≡ record r { word = [] } → nodes ≡ (k, []) ∷ taken.nodes → record taken { nodes = nodes; state = Between } ≡ with_node r k
-begun r taken nodes k is more = ap (between taken) more ∙ ap (λ x. between x ((k, []) ∷ x.nodes)) is
+pub begun : (r taken : Reading) (limit : ℕ) (nodes : List OpenTree) (k : ℕ) → taken ≡ record r { word = [] } → limit ≡ taken.limit → nodes ≡ (k, []) ∷ taken.nodes → record taken { limit = limit; nodes = nodes; state = Between } ≡ with_node r k
+begun r taken limit nodes k is same more = ap (λ l. record taken { limit = l; nodes = nodes; state = Between }) same ∙ ap (between taken) more ∙ ap (λ x. between x ((k, []) ∷ x.nodes)) is
 
 -- ---- what may follow a kind
 differs : (a b : ℕ) → (a == b) ≡ false → a ≢ b
@@ -220,13 +220,13 @@ module _ (r : Reading) (h : IsReading r) where
         }) in
         lacking r c (encode-ascii c (follows-ascii r.gaps c follows)) no_name (lacks (unread r) (unread-node r.word))
 
-    pub node-deep : IsFull r.nodes → IsDeep r
+    pub node-deep : IsFull r.limit r.nodes → IsDeep r
     node-deep full = record {
       opens = kind;
-      fits = close-within (name_in r.given) (is_gap r.gaps) r.nodes full;
+      fits = close-within (name_in r.given) (is_gap r.gaps) r.limit r.nodes full;
       only = λ t w left.
           let below = open-depth (name_in r.given) (is_gap r.gaps) h.names (are-gaps r.gaps) r.nodes t w (in-state r NodeKind t w kind left) in
-          let many = full.0 in
+          let many = full.1 in
           omega (arith, many, below);
     }
 
@@ -315,7 +315,7 @@ module _ (r : Reading) (h : IsReading r) where
     pub node-run : (bs : List ℕ) → list_all is_name_byte bs ≡ true → Reads r bs (record r { word = r.word ++ bs })
     node-run bs names =
         let new : Reading = record r { word = r.word ++ bs } in
-        with-any r bs [] new h refl (ap (λ x. x ++ bs) (unread-node r h kind r.word) ∙ sym (unread-node r h kind (r.word ++ bs))) (λ node. inr (kind, refl, refl, refl)) (λ more m. plain-node-run (with_names more r) (more-reading r h more m) kind bs names)
+        with-any r bs [] new h refl refl (ap (λ x. x ++ bs) (unread-node r h kind r.word) ∙ sym (unread-node r h kind (r.word ++ bs))) (λ node. inr (kind, refl, refl, refl)) (λ more m. plain-node-run (with_names more r) (more-reading r h more m) kind bs names)
 
     pub node-more : (c : ℕ) → is_name_byte c ≡ true → Reads r (encode_utf8 c) (record r { word = r.word ++ encode_utf8 c })
     node-more c name = node-run (encode_utf8 c) (name-bytes r h c name)
@@ -331,6 +331,7 @@ module _ (r : Reading) (h : IsReading r) where
     node-named c k new no_name is reads = record {
       sound = reads.sound;
       names = reads.names;
+      limit = reads.limit;
       past = r.word ++ reads.past;
       is = ap (λ x. x ++ encode_utf8 c) (unread-node r h kind r.word) ∙ ap (λ x. r.word ++ x) reads.is ∙ sym (append_assoc r.word reads.past (unread new));
       opens = λ node. elim (reads.opens node) [
@@ -369,7 +370,7 @@ module _ (r : Reading) (h : IsReading r) where
     pub token-run : (bs : List ℕ) → list_all is_name_byte bs ≡ true → Reads r bs (record r { word = r.word ++ bs })
     token-run bs names =
         let new : Reading = record r { word = r.word ++ bs } in
-        with-any r bs [] new h refl (ap (λ x. x ++ bs) (unread-token r h kind r.word) ∙ sym (unread-token r h kind (r.word ++ bs))) (λ node. absurd (no-node (sym kind ∙ node))) (λ more m. plain-token-run (with_names more r) (more-reading r h more m) kind bs names)
+        with-any r bs [] new h refl refl (ap (λ x. x ++ bs) (unread-token r h kind r.word) ∙ sym (unread-token r h kind (r.word ++ bs))) (λ node. absurd (no-node (sym kind ∙ node))) (λ more m. plain-token-run (with_names more r) (more-reading r h more m) kind bs names)
 
     pub token-more : (c : ℕ) → is_name_byte c ≡ true → Reads r (encode_utf8 c) (record r { word = r.word ++ encode_utf8 c })
     token-more c name = token-run (encode_utf8 c) (name-bytes r h c name)
@@ -379,5 +380,5 @@ module _ (r : Reading) (h : IsReading r) where
 
     pub token-named : (c : ℕ) (k : SyntaxKind) → c ≡ 34 → name_in r.given k.0 ≡ Some r.word → Reads r (encode_utf8 c) (record r { state = Text k; word = [] })
     token-named c k quote is =
-        with-any r (encode_utf8 c) (r.word ++ encode_utf8 c) (record r { state = Text k; word = [] }) h refl (ap (λ x. x ++ encode_utf8 c) (unread-token r h kind r.word) ∙ sym (append-nil (r.word ++ encode_utf8 c))) (λ node. cc)
+        with-any r (encode_utf8 c) (r.word ++ encode_utf8 c) (record r { state = Text k; word = [] }) h refl refl (ap (λ x. x ++ encode_utf8 c) (unread-token r h kind r.word) ∙ sym (append-nil (r.word ++ encode_utf8 c))) (λ node. cc)
         (λ more m. plain-named (with_names more r) (more-reading r h more m) kind c k quote (m.keeps k.0 r.word is))

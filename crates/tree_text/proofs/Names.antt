@@ -1,21 +1,17 @@
 -- The names that kinds are given, one by one.
 --     entries            the names as a caller sees them
---     next_entry         the entry at an index, and those after it
---     own_name           each kind in the list has the name that stands beside it
+--     own_name           the kind at an index has the name that stands beside it
 --     name_of_its_own    the name of one of the 65 is its name
---     other_name         an entry with another name
 --     in_neither         a name that is in neither list
 --     name_more, name_new, one_more_name      names where one kind more has one: the others keep theirs, it has its own, and all are names
 --     one_more_named     one more kind with a name, that had none
 --     own_names          the names that kinds have of their own
-use Rattle.std.proofs.Common.{◌≡◌, ◌≢◌, ◌⊎◌, inl, inr, refl, not, ◌&&◌, ◌||◌, ℕ, zero, suc, ◌+◌, ◌<◌, ◌≤◌, Bool, true, false, List, [], ◌∷◌, ◌++◌, length, get_or, drop, map, cond, Option, None, Some, sym, ap, ◌∙◌, subst, add-one, drop-cons, nat_eq, string_bytes, if◌then◌else◌, arith}
+use Rattle.std.proofs.Common.{◌≡◌, ◌≢◌, ◌⊎◌, inl, inr, refl, not, ◌&&◌, ◌||◌, ℕ, zero, suc, ◌<◌, Bool, true, false, List, [], ◌∷◌, ◌++◌, length, get_or, map, cond, Option, None, Some, sym, ap, ◌∙◌, subst, nat_eq, string_bytes, arith}
 use Rattle.std.specs.List.{All}
 use Rattle.std.proofs.lemmas.Cmp.{nat_eq_equiv}
-use Rattle.std.proofs.lemmas.List.{map-append}
 use Rattle.std.proofs.lemmas.List.Elements.{All-append, All-cons, All-nil}
 use Rattle.std.specs.Map.{lookup}
 use Rattle.std.specs.Option.{option_or}
-use Rattle.std.proofs.lemmas.List.{drop_all}
 use Rattle.std.specs.Cmp.Lexicographic.{pointwise}
 use Rattle.std.specs.Prelude.{slice_get}
 use Rattle.std.specs.List.{list_all, list_any}
@@ -32,9 +28,6 @@ entry g = (g.kind.0, string_bytes g.name)
 abbrev pub entries : List GivenName → List KindName
 entries gs = map entry gs
 
-pub next_entry : (gs : List GivenName) (i : ℕ) (g : GivenName) → i < length gs → g ≡ get_or gs i g → entries (drop i gs) ≡ entry g ∷ entries (drop (i + 1) gs)
-next_entry gs i g within is = let next : drop i gs ≡ g ∷ drop (i + 1) gs = rw (add-one, is) (drop-cons gs i g within) in ap entries next
-
 at_entry : (P : KindName → Type 0) (gs : List GivenName) (i : ℕ) (g : GivenName) → All P (entries gs) → i < length gs → g ≡ get_or gs i g → P (entry g)
 at_entry P [] i g all within is = absurd (omega arith)
 at_entry P (h ∷ gs) zero g all within is = subst (λ x. P (entry x)) (sym is) (all 0 (entry h) (omega arith))
@@ -46,21 +39,12 @@ own_name gs i g named within is = at_entry (λ e. name_in (entries gs) e.0 ≡ S
 pub name_of_its_own : {A : Type 0} (o l : Option A) (a : A) → o ≡ Some a → option_or o l ≡ Some a
 name_of_its_own o l a is = ap (λ x. option_or x l) is
 
-pub other_name : (b : Bool) (m n : List ℕ) (o : Option (List ℕ)) → (m ≡ n → ⊥) → cond b (Some m) o ≡ Some n → o ≡ Some n
-other_name true m n o differ is = absurd (differ (cc))
-other_name false m n o differ is = is
-
 in_either : {A : Type 0} (o l : Option A) (a : A) → (o ≡ Some a → ⊥) → (l ≡ Some a → ⊥) → option_or o l ≡ Some a → ⊥
 in_either None l a first second is = second is
 in_either (Some x) l a first second is = first is
 
 pub in_neither : (given : List KindName) (n : List ℕ) (k : ℕ) → (name_of k ≡ Some n → ⊥) → (lookup (nat_eq k) given ≡ Some n → ⊥) → name_in given k ≡ Some n → ⊥
 in_neither given n k first second is = in_either (name_of k) (lookup (nat_eq k) given) n first second is
-
-pub nowhere : (gs : List GivenName) (i k : ℕ) (n : List ℕ) → length gs ≤ i → lookup (nat_eq k) (entries (drop i gs)) ≡ Some n → ⊥
-nowhere gs i k n past found =
-    let none : None ≡ Some n = sym (ap (λ l. lookup (nat_eq k) (entries l)) (drop_all i gs past)) ∙ found in
-    absurd (cc)
 
 -- a kind that has a name keeps it as another one is given one
 lookup_more : (k : ℕ) (given : List KindName) (e : KindName) (n : List ℕ) → lookup (nat_eq k) given ≡ Some n → lookup (nat_eq k) (given ++ e ∷ []) ≡ Some n
@@ -95,7 +79,7 @@ pub name_new : (k : ℕ) (n : List ℕ) (given : List KindName) → name_in give
 name_new k n given none = fresh (name_of k) (lookup (nat_eq k) given) (lookup (nat_eq k) (given ++ (k, n) ∷ [])) n (lookup_new k n given) none
 
 -- where one more kind has a name, each name is an old one or the new one
-lookup_after : (k : ℕ) (given : List KindName) (e : KindName) (n : List ℕ) → lookup (nat_eq k) (given ++ e ∷ []) ≡ Some n → (lookup (nat_eq k) given ≡ Some n) ⊎ ((k ≡ e.0) × (n ≡ e.1))
+pub lookup_after : (k : ℕ) (given : List KindName) (e : KindName) (n : List ℕ) → lookup (nat_eq k) (given ++ e ∷ []) ≡ Some n → (lookup (nat_eq k) given ≡ Some n) ⊎ ((k ≡ e.0) × (n ≡ e.1))
 lookup_after k [] e n is = at_test (nat_eq k e.0) (eqb-true k e.0) is
   where
     at_test : (b : Bool) → (b ≡ true → k ≡ e.0) → cond b (Some e.1) None ≡ Some n → (None ≡ Some n) ⊎ ((k ≡ e.0) × (n ≡ e.1))
@@ -138,10 +122,6 @@ one_more_named given e named none spelled free =
       beside = All-append P given (e ∷ []) (λ k d within. name_more (get_or given k d).0 given e (get_or given k d).1 (named.beside k d within)) (All-cons P e [] (name_new e.0 e.1 given none) (All-nil P));
       names = one_more_name given e named.names spelled free;
     }
-
-pub named_after : (gs hs : List GivenName) (g : GivenName) (b : Bool) → hs ≡ (if b then gs ++ g ∷ [] else gs) → AreNamed (entries gs) → name_in (entries gs) g.kind.0 ≡ None → is_name (string_bytes g.name) ≡ true → ((k : ℕ) → name_in (entries gs) k ≢ Some (string_bytes g.name)) → AreNamed (entries hs)
-named_after gs hs g true is named none spelled free = subst (λ l. AreNamed l) (sym (ap entries is ∙ map-append entry gs (g ∷ []))) (one_more_named (entries gs) (entry g) named none spelled free)
-named_after gs hs g false is named none spelled free = subst (λ l. AreNamed (entries l)) (sym is) named
 
 -- ---- the names that kinds have of their own
 abbrev differ : List (List ℕ) → Bool

@@ -14,7 +14,7 @@ module _ (r : Reading) (h : IsReading r) where
   with_word word = record r { word = word }
 
   no-bytes : Reads r [] r
-  no-bytes = record { sound = h; names = refl; past = []; is = append-nil (unread r); opens = λ node. inr (node, refl, refl, refl); each = λ more m. record { on = λ t w left. left; back = λ t w left. left } }
+  no-bytes = record { sound = h; names = refl; limit = refl; past = []; is = append-nil (unread r); opens = λ node. inr (node, refl, refl, refl); each = λ more m. record { on = λ t w left. left; back = λ t w left. left } }
 
   pub read-nothing : (text : List ℕ) → ReadsUpTo r text text r
   read-nothing text = ([], refl, no-bytes)

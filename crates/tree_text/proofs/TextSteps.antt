@@ -11,7 +11,7 @@ use Rattle.std.proofs.lemmas.Bool.{false≢true}
 use Rattle.cst_core.specs.Green.{Branch, branch_tree, IsTooLong}
 use Rattle.cst_core.specs.Tree.{SyntaxTree, Token, node, text}
 use Rattle.green_tree.specs.declared.kind.SyntaxKind.{SyntaxKind}
-use Rattle.tree_text.specs.Depth.{depth, depth_limit}
+use Rattle.tree_text.specs.Depth.{depth}
 use Rattle.tree_text.specs.KindNames.{name_in}
 use Rattle.tree_text.specs.inner.Completing.{IsFrom, IsAfter, IsRestOfToken, OpenTree}
 use Rattle.tree_text.specs.inner.Gap.{is_gap}
@@ -223,12 +223,12 @@ module _ (r : Reading) (h : IsReading r) where
           back = λ t w left. before-node (n.kind, n.children) outer is t w (taken-from outer new (branch_tree n) t w put (from-between after t w state none left));
         }
 
-    plain-tree : (n : Branch) (outer : List OpenTree) → r.nodes ≡ (n.kind, n.children) ∷ outer → outer ≡ [] → depth (branch_tree n) ≤ depth_limit → PlainReads r (encode_utf8 41) (record r { nodes = outer; root = Some n })
+    plain-tree : (n : Branch) (outer : List OpenTree) → r.nodes ≡ (n.kind, n.children) ∷ outer → outer ≡ [] → depth (branch_tree n) ≤ r.limit → PlainReads r (encode_utf8 41) (record r { nodes = outer; root = Some n })
     plain-tree n outer is none limited =
         let after : Reading = record r { nodes = outer; root = Some n } in
         let whole : (m : Branch) → Some n ≡ Some m → IsWhole after m = λ m same.
         let it : n ≡ m = cc in
-        record { limited = subst (λ x. depth (branch_tree x) ≤ depth_limit) it limited; between = state; closed = none } in
+        record { limited = subst (λ x. depth (branch_tree x) ≤ r.limit) it limited; between = state; closed = none } in
         record {
           sound = record { names = h.names; word = h.word; inside = subst (λ s. IsInside s outer) (sym state) tt; whole = whole };
           on = λ t w left.
@@ -248,18 +248,18 @@ module _ (r : Reading) (h : IsReading r) where
     pub text-run : (bs : List ℕ) → list_all (λ b. not (b == 34 || b == 92)) bs ≡ true → Reads r bs (record r { word = r.word ++ bs })
     text-run bs plain =
         let new : Reading = record r { word = r.word ++ bs } in
-        with-any r bs bs new h refl (all-read bs (unread new) (no-unread r h k state (r.word ++ bs))) (λ node. absurd (no-node-text k (sym state ∙ node))) (λ more m. plain-run (with_names more r) (more-reading r h more m) k state bs plain)
+        with-any r bs bs new h refl refl (all-read bs (unread new) (no-unread r h k state (r.word ++ bs))) (λ node. absurd (no-node-text k (sym state ∙ node))) (λ more m. plain-run (with_names more r) (more-reading r h more m) k state bs plain)
 
     pub text-more : (c : ℕ) → c ≢ 34 → c ≢ 92 → Reads r (encode_utf8 c) (record r { word = r.word ++ encode_utf8 c })
     text-more c no_quote no_escape =
         text-run (encode_utf8 c) (plain-bytes c (neither (c == 34) (c == 92) (other c 34 no_quote) (other c 92 no_escape)))
 
     pub begins-escape : (c : ℕ) → c ≡ 92 → Reads r (encode_utf8 c) (record r { state = Escape k })
-    begins-escape c is = with-any r (encode_utf8 c) (encode_utf8 c) (record r { state = Escape k }) h refl (all-read (encode_utf8 c) [] refl) (λ node. cc) (λ more m. plain-escape (with_names more r) (more-reading r h more m) k state c is)
+    begins-escape c is = with-any r (encode_utf8 c) (encode_utf8 c) (record r { state = Escape k }) h refl refl (all-read (encode_utf8 c) [] refl) (λ node. cc) (λ more m. plain-escape (with_names more r) (more-reading r h more m) k state c is)
 
     pub ends-token : (new : List OpenTree) → HasPut (Token k.0 r.word) r.nodes new → Reads r (encode_utf8 34) (record r { nodes = new; state = Between; word = [] })
     ends-token new put =
-        with-any r (encode_utf8 34) (encode_utf8 34) (record r { nodes = new; state = Between; word = [] }) h refl (all-read (encode_utf8 34) [] refl) (λ node. cc) (λ more m. plain-token (with_names more r) (more-reading r h more m) k state new put)
+        with-any r (encode_utf8 34) (encode_utf8 34) (record r { nodes = new; state = Between; word = [] }) h refl refl (all-read (encode_utf8 34) [] refl) (λ node. cc) (λ more m. plain-token (with_names more r) (more-reading r h more m) k state new put)
 
     pub token-nowhere : r.nodes ≡ [] → CannotGoOn r (encode_utf8 34)
     token-nowhere none b after is more m = plain-nowhere (with_names more r) (more-reading r h more m) k state none b after is
@@ -278,7 +278,7 @@ module _ (r : Reading) (h : IsReading r) where
     pub ends-escape : (c m : ℕ) → meant c ≡ Some m → Reads r (encode_utf8 c) (record r { state = Text k; word = r.word ++ encode_utf8 m })
     ends-escape c x is =
         let new : Reading = record r { state = Text k; word = r.word ++ encode_utf8 x } in
-        with-any r (encode_utf8 c) (encode_utf8 c) new h refl (all-past (unread r) (encode_utf8 c) [] (no-unread'' r h k state r.word) refl) (λ node. cc) (λ more m. plain-letter (with_names more r) (more-reading r h more m) k state c x is)
+        with-any r (encode_utf8 c) (encode_utf8 c) new h refl refl (all-past (unread r) (encode_utf8 c) [] (no-unread'' r h k state r.word) refl) (λ node. cc) (λ more m. plain-letter (with_names more r) (more-reading r h more m) k state c x is)
 
     pub no-escape : (c : ℕ) → meant c ≡ None → CannotGoOn r (encode_utf8 c)
     no-escape c none b after is more m = plain-no-escape (with_names more r) (more-reading r h more m) k state c none b after is
@@ -302,9 +302,9 @@ module _ (r : Reading) (h : IsReading r) where
 
     pub ends-node : (n : Branch) (outer new : List OpenTree) → r.nodes ≡ (n.kind, n.children) ∷ outer → HasPut (branch_tree n) outer new → Reads r (encode_utf8 41) (record r { nodes = new })
     ends-node n outer new is put =
-        with-any r (encode_utf8 41) (encode_utf8 41) (record r { nodes = new }) h refl (between-read (record r { nodes = new }) state) (λ node. absurd (no-node-between (sym state ∙ node))) (λ more m. plain-node (with_names more r) (more-reading r h more m) state inside n outer new is put)
+        with-any r (encode_utf8 41) (encode_utf8 41) (record r { nodes = new }) h refl refl (between-read (record r { nodes = new }) state) (λ node. absurd (no-node-between (sym state ∙ node))) (λ more m. plain-node (with_names more r) (more-reading r h more m) state inside n outer new is put)
 
-    pub ends-tree : (n : Branch) (outer : List OpenTree) → r.nodes ≡ (n.kind, n.children) ∷ outer → outer ≡ [] → depth (branch_tree n) ≤ depth_limit → Reads r (encode_utf8 41) (record r { nodes = outer; root = Some n })
+    pub ends-tree : (n : Branch) (outer : List OpenTree) → r.nodes ≡ (n.kind, n.children) ∷ outer → outer ≡ [] → depth (branch_tree n) ≤ r.limit → Reads r (encode_utf8 41) (record r { nodes = outer; root = Some n })
     ends-tree n outer is none limited =
         let new : Reading = record r { nodes = outer; root = Some n } in
-        with-any r (encode_utf8 41) (encode_utf8 41) new h refl (between-read new state) (λ node. absurd (no-node-between (sym state ∙ node))) (λ more m. plain-tree (with_names more r) (more-reading r h more m) state inside n outer is none limited)
+        with-any r (encode_utf8 41) (encode_utf8 41) new h refl refl (between-read new state) (λ node. absurd (no-node-between (sym state ∙ node))) (λ more m. plain-tree (with_names more r) (more-reading r h more m) state inside n outer is none limited)

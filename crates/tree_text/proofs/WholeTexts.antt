@@ -8,13 +8,14 @@
 --     refused-run           where memory is refused
 --     refused-end           where the text is at its end
 --     on-own, back-own, end-on, end-back      with the names that kinds have, and at its end
-use Rattle.std.proofs.Common.{◌≡◌, ◌≢◌, ℕ, ◌+◌, ◌-◌, false, List, [], ◌∷◌, ◌++◌, length, length-append, None, Some, append_assoc, append-nil, inl, inr, refl, sym, ap, ◌∙◌, subst, arith}
+use Rattle.std.proofs.Common.{◌≡◌, ◌≢◌, ℕ, ◌+◌, ◌-◌, ◌<◌, ◌≤◌, false, List, [], ◌∷◌, ◌++◌, length, length-append, None, Some, append_assoc, append-nil, inl, inr, refl, sym, ap, ◌∙◌, subst, arith}
 use Rattle.std.specs.Prelude.{codes, encode_utf8}
 use Rattle.cst_core.specs.Green.{IsTooLong}
 use Rattle.cst_core.specs.Tree.{SyntaxTree, text}
+use Rattle.tree_text.specs.Depth.{depth}
 use Rattle.tree_text.specs.Grammar.{IsExpression, begins_with_name_byte}
 use Rattle.tree_text.specs.KindNames.{KindName, name_in}
-use Rattle.tree_text.specs.Refusals.{IsRefused, KeepsNames, Begins, MayBegin, MayGoOn, IsMalformed, LacksName, BeginsAs, IsTooDeep, ReadRefuses}
+use Rattle.tree_text.specs.Refusals.{IsRefused, KeepsNames, Begins, MayBegin, MayGoOn, IsMalformed, LacksName, BeginsAs, IsTooDeepFor, ReadRefusesFor}
 use Rattle.tree_text.specs.inner.Completing.{IsFrom}
 use Rattle.tree_text.specs.inner.Gap.{is_gap}
 use Rattle.tree_text.specs.inner.Nowhere.{Nowhere}
@@ -30,7 +31,7 @@ use Rattle.tree_text.proofs.NameSteps.{part-named}
 use Rattle.tree_text.proofs.Refusing.{refused-weaker}
 use Rattle.tree_text.proofs.WholeTrees.{as-expression, from-expression}
 
-module _ (given : List KindName) (gaps : Gaps) (whole : List ℕ) where
+module _ (given : List KindName) (gaps : Gaps) (limit : ℕ) (whole : List ℕ) where
   abbrev Is : List KindName → SyntaxTree → List ℕ → Type 0
   Is more t w = IsExpression (name_in more) (is_gap gaps) t w
 
@@ -45,6 +46,7 @@ module _ (given : List KindName) (gaps : Gaps) (whole : List ℕ) where
     pub is : whole ≡ front ++ (unread r ++ rest)
     pub sound : IsReading r
     pub names : r.given ≡ given
+    pub limited : r.limit ≡ limit
     pub on : (more : List KindName) → KeepsNames given more → (t : SyntaxTree) (w : List ℕ) → Is more t (front ++ w) → IsLeft (with_names more r) t w
     pub back : (more : List KindName) → KeepsNames given more → (t : SyntaxTree) (w : List ℕ) → IsLeft (with_names more r) t w → Is more t (front ++ w)
     pub opened : r.state ≡ NodeKind → HasOpened front r
@@ -52,12 +54,13 @@ module _ (given : List KindName) (gaps : Gaps) (whole : List ℕ) where
   no-node : Between ≢ NodeKind
   no-node is = cc
 
-  pub nothing-read : (rest : List ℕ) (r : Reading) → rest ≡ whole → r ≡ first_reading given gaps → IsReading r → HasRead rest r
+  pub nothing-read : (rest : List ℕ) (r : Reading) → rest ≡ whole → r ≡ first_reading given gaps limit → IsReading r → HasRead rest r
   nothing-read rest r is first sound = record {
     front = [];
     is = sym is ∙ ap (λ x. unread x ++ rest) (sym first);
     sound = sound;
     names = ap (λ x. x.given) first;
+    limited = ap (λ x. x.limit) first;
     on = λ more m t w expression. subst (λ x. IsLeft (with_names more x) t w) (sym first) (from-expression (name_in more) (is_gap gaps) t w expression);
     back = λ more m t w left. as-expression (name_in more) (is_gap gaps) t w (subst (λ x. IsLeft (with_names more x) t w) first left);
     opened = λ node. absurd (no-node (sym (ap (λ x. x.state) first) ∙ node));
@@ -91,6 +94,7 @@ module _ (given : List KindName) (gaps : Gaps) (whole : List ℕ) where
         is = so_far.is ∙ ap (λ x. so_far.front ++ x) behind ∙ sym (append_assoc so_far.front reads.past (unread new ++ after));
         sound = reads.sound;
         names = reads.names ∙ so_far.names;
+        limited = reads.limit ∙ so_far.limited;
         on = λ more m t w expression. (reads.each more (keeps more m)).on t w (so_far.on more m t (reads.past ++ w) (subst (Is more t) (append_assoc so_far.front reads.past w) expression));
         back = λ more m t w left. subst (Is more t) (sym (append_assoc so_far.front reads.past w)) (so_far.back more m t (reads.past ++ w) ((reads.each more (keeps more m)).back t w left));
         opened = λ node. elim (reads.opens node) [
@@ -168,7 +172,7 @@ module _ (given : List KindName) (gaps : Gaps) (whole : List ℕ) where
           only = λ t w expression. goes_on.only t w (on-own t (unread r ++ (bytes ++ w)) (subst (Is given t) (join w) expression));
         }
 
-    too-deep : IsDeep r → IsTooDeep given (is_gap gaps) whole (length so_far.front)
+    too-deep : IsDeep r → IsTooDeepFor limit given (is_gap gaps) whole (length so_far.front)
     too-deep deep =
         let o = so_far.opened deep.opens in
         let f = deep.fits in
@@ -177,9 +181,9 @@ module _ (given : List KindName) (gaps : Gaps) (whole : List ℕ) where
           rest = unread r ++ rest;
           is = so_far.is ∙ ap (λ x. x ++ (unread r ++ rest)) o.is;
           here = ap length o.is;
-          fits = (f.0, f.1, o.back f.0 f.1 f.2 (subst (λ g. IsFrom (name_in g) (is_gap r.gaps) r.nodes f.0 f.1) so_far.names f.3), f.4);
+          fits = (f.0, f.1, o.back f.0 f.1 f.2 (subst (λ g. IsFrom (name_in g) (is_gap r.gaps) r.nodes f.0 f.1) so_far.names f.3), subst (λ l. depth f.0 ≤ l) so_far.limited f.4);
           begins = subst (Begins given (is_gap gaps)) o.is begun;
-          only = λ t w expression. deep.only t w (on-own t w (subst (λ x. Is given t (x ++ w)) (sym o.is) expression));
+          only = λ t w expression. subst (λ l. l < depth t) so_far.limited (deep.only t w (on-own t w (subst (λ x. Is given t (x ++ w)) (sym o.is) expression)));
         }
 
     lacking : (bytes after : List ℕ) → rest ≡ bytes ++ after → Lacks r bytes → LacksName given (is_gap gaps) whole (length so_far.front)
@@ -209,7 +213,7 @@ module _ (given : List KindName) (gaps : Gaps) (whole : List ℕ) where
     before-unread : (x : ℕ) → x ≡ here - length (unread r) → x ≡ length so_far.front
     before-unread x is = omega (arith, is, length-append so_far.front (unread r))
 
-    pub stuck-there : (at c : ℕ) (after : List ℕ) (e : ExpressionError) → at ≡ length whole - length rest → rest ≡ encode_utf8 c ++ after → IsStuck r at (encode_utf8 c) e → ReadRefuses given (is_gap gaps) whole e
+    pub stuck-there : (at c : ℕ) (after : List ℕ) (e : ExpressionError) → at ≡ length whole - length rest → rest ≡ encode_utf8 c ++ after → IsStuck r at (encode_utf8 c) e → ReadRefusesFor limit given (is_gap gaps) whole e
     stuck-there at c after e there is stuck =
         let at-here : at ≡ here = omega (arith, there, here-is) in
         let f = first-byte c in
@@ -217,11 +221,11 @@ module _ (given : List KindName) (gaps : Gaps) (whole : List ℕ) where
         refused-weaker e _ _ _ _ _ _ _ _
         (λ x none. subst (IsMalformed given (is_gap gaps) whole) (sym (none.0 ∙ at-here)) (malformed (subst (λ l. MayGoOn given (is_gap gaps) (so_far.front ++ unread r) l → ⊥) (sym first) (unreadable (encode_utf8 c) f.first f.rest f.is none.1))))
         (λ x lacks. subst (LacksName given (is_gap gaps) whole) (sym (before-unread x (lacks.0 ∙ ap (λ y. y - length (unread r)) at-here))) (lacking (encode_utf8 c) after is lacks.1))
-        (λ x deep. subst (IsTooDeep given (is_gap gaps) whole) (sym (before-unread x (deep.0 ∙ ap (λ y. y - length (unread r)) at-here))) (too-deep deep.1))
+        (λ x deep. subst (IsTooDeepFor limit given (is_gap gaps) whole) (sym (before-unread x (deep.0 ∙ ap (λ y. y - length (unread r)) at-here))) (too-deep deep.1))
         (begins (encode_utf8 c) after (λ t. IsTooLong (text t)) is)
         stuck
 
-    pub refused-end : (at : ℕ) (e : ExpressionError) → at ≡ length whole → rest ≡ [] → IsRefused (λ x. (x ≡ at) × CannotEnd r) Nowhere Nowhere ⊥ e → ReadRefuses given (is_gap gaps) whole e
+    pub refused-end : (at : ℕ) (e : ExpressionError) → at ≡ length whole → rest ≡ [] → IsRefused (λ x. (x ≡ at) × CannotEnd r) Nowhere Nowhere ⊥ e → ReadRefusesFor limit given (is_gap gaps) whole e
     refused-end at e there none h =
         let at-here : at ≡ here = omega (arith, there, here-is, ap length none) in
         let ends : CannotEnd r → MayGoOn given (is_gap gaps) (so_far.front ++ unread r) [] → ⊥ = λ cannot goes.
@@ -242,5 +246,5 @@ module _ (given : List KindName) (gaps : Gaps) (whole : List ℕ) where
   pub more-read : (rest left : List ℕ) (old new : Reading) → HasRead rest old → ReadsUpTo old rest left new → HasRead left new
   more-read rest left old new so_far reads = one-more-read reads.0 rest left old new reads.1 so_far reads.2
 
-  pub refused-run : (e : ExpressionError) → IsRefused Nowhere Nowhere Nowhere ⊥ e → ReadRefuses given (is_gap gaps) whole e
+  pub refused-run : (e : ExpressionError) → IsRefused Nowhere Nowhere Nowhere ⊥ e → ReadRefusesFor limit given (is_gap gaps) whole e
   refused-run e h = refused-weaker e Nowhere Nowhere Nowhere ⊥ _ _ _ _ (λ x none. absurd none) (λ x lacks. absurd lacks) (λ x deep. absurd deep) (λ long. absurd long) h

@@ -10,15 +10,15 @@
 --                                   is before it, and none with that and the name. But where one kind more has the name, one begins with
 --                                   that, the name and the next byte, which is no byte of a name.
 --     BeginsAs                      A front of a text is that of an expression, and only of those of such trees.
---     IsTooDeep                     A text is too deep at this byte. With the parenthesis before it, what is before it begins an
---                                   expression, and only those of trees that are nested more than 200 deep; without that parenthesis also
---                                   one of a tree that isn't.
+--     IsTooDeepFor, IsTooDeep       A text is too deep at this byte, where trees are nested at most so deep. With the parenthesis before it,
+--                                   what is before it begins an expression, and only those of trees that are nested deeper; without that
+--                                   parenthesis also one of a tree that isn't; the same where the limit is 200.
 --     IsRefused, IsTreeRefused      What an error says, of its byte if it has one: one thing for each of `Malformed`, `UnknownKind`,
 --                                   `TooDeep` and `Tree(TooLong)`. It says nothing for `Memory`, and no other comes; the same of the tree's
 --                                   own errors.
---     ReadRefuses                   Why a text isn't read: at the byte of the error it is malformed (`Malformed`), lacks the name of a kind
---                                   (`UnknownKind`), or is too deep (`TooDeep`); or it begins only as the expressions of trees whose text
---                                   is too long (`Tree(TooLong)`).
+--     ReadRefusesFor, ReadRefuses   Why a text isn't read, where trees are nested at most so deep: at the byte of the error it is malformed
+--                                   (`Malformed`), lacks the name of a kind (`UnknownKind`), or is too deep (`TooDeep`); or it begins only
+--                                   as the expressions of trees whose text is too long (`Tree(TooLong)`); the same where the limit is 200.
 --
 -- `(NOPE)` and `(NOPE !)` lack a name at byte 1, since `(NOPE)` and `(NOPE ` begin an expression once a kind is called
 -- `NOPE`. `(NAME !)`, `( NAME)`, `(NOPE` and `(NOPE"a")` are malformed at the bytes 6, 1, 5 and 5, whatever kinds are
@@ -81,14 +81,17 @@ pub record BeginsAs (given : List KindName) (gaps : ℕ → Bool) (Are : SyntaxT
   pub goes : Begins given gaps front
   pub only : (t : SyntaxTree) (x : List ℕ) → IsExpression (name_in given) gaps t (front ++ x) → Are t
 
-pub record IsTooDeep (given : List KindName) (gaps : ℕ → Bool) (w : List ℕ) (at : ℕ) : Type 0 where
+pub record IsTooDeepFor (limit : ℕ) (given : List KindName) (gaps : ℕ → Bool) (w : List ℕ) (at : ℕ) : Type 0 where
   pub front : List ℕ
   pub rest : List ℕ
   pub is : w ≡ (front ++ codes "(") ++ rest
   pub here : at ≡ length (front ++ codes "(")
-  pub fits : (t : SyntaxTree) × (x : List ℕ) × IsExpression (name_in given) gaps t (front ++ x) × (depth t ≤ depth_limit)
+  pub fits : (t : SyntaxTree) × (x : List ℕ) × IsExpression (name_in given) gaps t (front ++ x) × (depth t ≤ limit)
   pub begins : Begins given gaps (front ++ codes "(")
-  pub only : (t : SyntaxTree) (x : List ℕ) → IsExpression (name_in given) gaps t ((front ++ codes "(") ++ x) → depth_limit < depth t
+  pub only : (t : SyntaxTree) (x : List ℕ) → IsExpression (name_in given) gaps t ((front ++ codes "(") ++ x) → limit < depth t
+
+abbrev pub IsTooDeep : List KindName → (ℕ → Bool) → List ℕ → ℕ → Type 0
+IsTooDeep given gaps w at = IsTooDeepFor depth_limit given gaps w at
 
 abbrev pub IsTreeRefused : Type 0 → TreeError → Type 0
 IsTreeRefused long Trees.TooLong = long
@@ -102,9 +105,12 @@ IsRefused malformed lacking deep long (TooDeep at) = deep at
 IsRefused malformed lacking deep long (Tree e) = IsTreeRefused long e
 IsRefused malformed lacking deep long Memory = Unit {0}
 
-abbrev pub ReadRefuses : List KindName → (ℕ → Bool) → List ℕ → ExpressionError → Type 0
-ReadRefuses given gaps w = IsRefused
+abbrev pub ReadRefusesFor : ℕ → List KindName → (ℕ → Bool) → List ℕ → ExpressionError → Type 0
+ReadRefusesFor limit given gaps w = IsRefused
     (IsMalformed given gaps w)
     (LacksName given gaps w)
-    (IsTooDeep given gaps w)
+    (IsTooDeepFor limit given gaps w)
     (BeginsAs given gaps (λ t. IsTooLong (text t)) w)
+
+abbrev pub ReadRefuses : List KindName → (ℕ → Bool) → List ℕ → ExpressionError → Type 0
+ReadRefuses given gaps w = ReadRefusesFor depth_limit given gaps w

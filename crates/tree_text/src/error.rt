@@ -17,7 +17,8 @@ pub enum ExpressionError {
     /// No kind has the name that begins at this byte. What stands behind the name may stand there.
     #[error("UnknownKind {at}")]
     UnknownKind { at: usize },
-    /// More parentheses than `DEPTH_LIMIT` are open at once. The kind of the first node that is too deep begins at this byte.
+    /// More parentheses are open at once than the limit allows, which is `DEPTH_LIMIT` unless the call takes another. The kind of
+    /// the first node that is too deep begins at this byte.
     #[error("TooDeep {at}")]
     TooDeep { at: usize },
     /// The tree cannot be made, and not because memory ran out.

@@ -1,12 +1,12 @@
-//! `read_tree`, `read_tree_with` and `read_line_tree`: the tree that a text stands for.
+//! `read_tree`, `read_line_tree` and the same with names of one's own: the tree that a text stands for.
 
-ghost use Rattle.std.specs.Prelude.{◌≡◌, ◌≤◌, [], false, IfErr, IfOk, None};
+ghost use Rattle.std.specs.Prelude.{◌≡◌, ◌<◌, ◌≤◌, [], false, IfErr, IfOk, None};
 ghost use Rattle.cst_core.specs.Green.{branch_tree};
 ghost use Rattle.cst_core.specs.Tree.{SyntaxTree, is_token};
 ghost use Rattle.tree_text.specs.Depth.{depth, depth_limit};
 ghost use Rattle.tree_text.specs.Grammar.{IsExpression, is_gap_blank, is_gap_space};
 ghost use Rattle.tree_text.specs.KindNames.{name_in};
-ghost use Rattle.tree_text.specs.Refusals.{ReadRefuses};
+ghost use Rattle.tree_text.specs.Refusals.{ReadRefuses, ReadRefusesFor};
 ghost use Rattle.tree_text.specs.TreeText.{expression_of, unnamed_in};
 ghost use Rattle.tree_text.specs.inner.Gap.{is_gap};
 
@@ -54,7 +54,7 @@ pub fn read_tree_with(
         → expression.now ≡ expression_of names.now t → IfOk result (λ n. branch_tree n ≡ t) }
     ensures refused { IfErr result (ReadRefuses names.now is_gap_blank expression.now) }
 {
-    read(alloc, expression, names, Gaps::Lines)
+    read(alloc, expression, names, Gaps::Lines, DEPTH_LIMIT)
 }
 
 /// The tree of an expression that is a part of a line: `read_tree`, but only spaces stand between elements.
@@ -65,7 +65,24 @@ pub fn read_line_tree(alloc: Global, expression: &str) -> Result<GreenNode, Expr
         → IfOk result (λ n. branch_tree n ≡ t) }
     ensures refused { IfErr result (ReadRefuses [] is_gap_space expression.now) }
 {
-    read(alloc, expression, &KindNames::new(alloc), Gaps::Spaces)
+    read_line_tree_with(alloc, expression, &KindNames::new(alloc), DEPTH_LIMIT)
+}
+
+/// `read_line_tree` with names of one's own, and with as many parentheses open at once as the limit says, one at least.
+pub fn read_line_tree_with(
+    alloc: Global,
+    expression: &str,
+    names: &KindNames,
+    limit: usize,
+) -> Result<GreenNode, ExpressionError>
+    requires { 0 < limit }
+    ensures limited { IfOk result (λ n. depth (branch_tree n) ≤ limit) }
+    ensures found { IfOk result (λ n. IsExpression (name_in names.now) is_gap_space (branch_tree n) expression.now) }
+    ensures only { (t : SyntaxTree) → IsExpression (name_in names.now) is_gap_space t expression.now
+        → IfOk result (λ n. branch_tree n ≡ t) }
+    ensures refused { IfErr result (ReadRefusesFor limit names.now is_gap_space expression.now) }
+{
+    read(alloc, expression, names, Gaps::Spaces, limit)
 }
 
 fn read(
@@ -73,14 +90,16 @@ fn read(
     expression: &str,
     names: &KindNames,
     gaps: Gaps,
+    limit: usize,
 ) -> Result<GreenNode, ExpressionError>
-    ensures limited { IfOk result (λ n. depth (branch_tree n) ≤ depth_limit) }
+    requires { 0 < limit }
+    ensures limited { IfOk result (λ n. depth (branch_tree n) ≤ limit) }
     ensures found { IfOk result (λ n. IsExpression (name_in names.now) (is_gap gaps) (branch_tree n) expression.now) }
     ensures only { (t : SyntaxTree) → IsExpression (name_in names.now) (is_gap gaps) t expression.now
         → IfOk result (λ n. branch_tree n ≡ t) }
-    ensures refused { IfErr result (ReadRefuses names.now (is_gap gaps) expression.now) }
+    ensures refused { IfErr result (ReadRefusesFor limit names.now (is_gap gaps) expression.now) }
 {
-    let mut reader = Reader::new(alloc, names, gaps);
+    let mut reader = Reader::new(alloc, names, gaps, limit);
     let mut rest = expression;
     while let Some((c, behind)) = first_of(rest) {
         reader.at = expression.len().saturating_sub(rest.len());

@@ -1,12 +1,19 @@
 //! `KindNames`: names for kinds of a caller's own, which reading and writing take.
 
-ghost use Rattle.std.specs.Prelude.{ℕ, ◌≡◌, ◌≢◌, ◌↔◌, ◌++◌, [], ◌∷◌, true, false, Some, None, Err, IsSome, IfSome, IsNone, OnOk, OnErr, option_map};
-ghost use Rattle.tree_text.specs.KindNames.{name_in, is_name, is_name_byte, IsTaken, AreNames};
+ghost use Rattle.std.specs.Prelude.{ℕ, ◌≡◌, ◌≢◌, ◌↔◌, ◌++◌, [], ◌∷◌, true, false, Some, None, Err, IsSome, IfSome, IsNone, OnOk, OnErr, MatchOption, option_map, string_bytes, ◌<◌, ◌≤◌, ◌^◌};
+ghost use Rattle.tree_text.specs.KindNames.{name_in, next_kind, is_name, is_name_byte, IsTaken, AreNames};
 
 use crate::name_error::NameError;
 use cst_core::SyntaxKind;
 use std::alloc::Global;
+use std::collections::HashMap;
 use std::marker::Model;
+
+/// How many kinds `SyntaxKind` names, from 0 on.
+pub(crate) const NAMED_KINDS: usize = 65;
+
+// How many numbers of kinds there are.
+const NUMBERS: usize = 65_536;
 
 #[derive(Drop)]
 struct GivenName {
@@ -18,6 +25,8 @@ struct GivenName {
 #[derive(Drop)]
 pub struct KindNames {
     given: Vec<GivenName>,
+    // The kind of each of these names.
+    kinds: HashMap<String, SyntaxKind>,
 }
 
 impl Model for KindNames {
@@ -28,9 +37,9 @@ impl Model for KindNames {
 
     ghost view = { λ a. map (λ g. (g.kind.0, string_bytes g.name)) a.given.items };
 
-    ghost use Rattle.tree_text.specs.inner.NamedKinds.{AreNamed};
+    ghost use Rattle.tree_text.specs.inner.NamedKinds.{AreKept};
 
-    ghost invariant = { λ a. AreNamed (map (λ g. (g.kind.0, string_bytes g.name)) a.given.items) };
+    ghost invariant = { λ a. AreKept a.kinds (map (λ g. (g.kind.0, string_bytes g.name)) a.given.items) };
 }
 
 impl KindNames {
@@ -40,11 +49,12 @@ impl KindNames {
     {
         KindNames {
             given: Vec::new(alloc),
+            kinds: HashMap::new(alloc),
         }
     }
 
-    /// Says what holds of all names, to those who call it.
-    pub(crate) fn are_names(&self)
+    /// Says what holds of all names, to those who call it: they are spelled as such, and no two kinds have the same.
+    pub fn are_names(&self)
         ensures { AreNames (name_in self.now) }
     {
         // For the proof: a read makes the names' invariant known.
@@ -74,9 +84,24 @@ impl KindNames {
         if self.kind(name).is_some() {
             return Err(NameError::Taken);
         }
+        let key = String::from_str(alloc, name)?;
         let name = String::from_str(alloc, name)?;
-        self.given.push(GivenName { kind, name })?;
+        self.given.reserve(1)?;
+        self.kinds.insert(key, kind)?;
+        self.given.push(GivenName { kind, name }).unwrap();
         Ok(())
+    }
+
+    /// The kind after the 65 and after as many more as were given names, if there is such a number.
+    pub fn next_kind(&self) -> Option<SyntaxKind>
+        ensures { MatchOption result (2 ^ 16 ≤ next_kind self.now)
+            (λ kind. (kind.0 ≡ next_kind self.now) × (kind.0 < 2 ^ 16)) }
+    {
+        let count = self.given.len();
+        if count >= NUMBERS - NAMED_KINDS {
+            return None;
+        }
+        Some(SyntaxKind((NAMED_KINDS + count) as u16))
     }
 
     /// The kind of this name, if it is the name of one.
@@ -87,12 +112,7 @@ impl KindNames {
         if let Some(kind) = SyntaxKind::from_name(name) {
             return Some(kind);
         }
-        for given in &self.given {
-            if given.name.as_str() == name {
-                return Some(given.kind);
-            }
-        }
-        None
+        self.kinds.get(name).copied()
     }
 
     /// The name of a kind, if it has one.
@@ -102,12 +122,28 @@ impl KindNames {
         if let Some(name) = kind.name() {
             return Some(name);
         }
+        if let Some(given) = self.given_at(kind) {
+            return Some(given.name.as_str());
+        }
         for given in &self.given {
             if kind == given.kind {
                 return Some(given.name.as_str());
             }
         }
         None
+    }
+
+    // The name of a kind that `next_kind` told, which stands at its number.
+    fn given_at(&self, kind: SyntaxKind) -> Option<&GivenName>
+        ensures { IfSome result (λ given. name_in self.now kind.0 ≡ Some (string_bytes given.now.name)) }
+    {
+        let place = usize::from(kind.0).checked_sub(NAMED_KINDS)?;
+        let given = self.given.get(place)?;
+        if given.kind == kind {
+            Some(given)
+        } else {
+            None
+        }
     }
 }
 

@@ -6,13 +6,11 @@ ghost use Rattle.tree_text.specs.Refusals.{IsRefused};
 ghost use Rattle.tree_text.specs.inner.Nowhere.{Nowhere};
 
 use crate::error::ExpressionError;
+use crate::kind_names::NAMED_KINDS;
 use cst_core::{GreenToken, SyntaxKind};
 use std::alloc::{AllocError, Global};
 
-// How many kinds have a last token: those that `SyntaxKind` names.
-const KINDS: usize = 65;
-
-/// Of each kind the last token, so that one that comes again, as most brackets and spaces do, is shared.
+/// Of each kind that `SyntaxKind` names the last token, so that one that comes again, as most brackets and spaces do, is shared.
 #[derive(Drop)]
 pub(crate) struct LastTokens {
     // By the number of the kind.
@@ -56,7 +54,7 @@ impl LastTokens {
 
     fn keep(&mut self, alloc: Global, token: &GreenToken) -> Result<(), AllocError> {
         let number = usize::from(token.kind().0);
-        if number >= KINDS {
+        if number >= NAMED_KINDS {
             return Ok(());
         }
         for _ in self.tokens.len()..number + 1 {

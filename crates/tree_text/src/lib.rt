@@ -23,7 +23,7 @@ mod write_error;
 pub use error::ExpressionError;
 pub use escape::push_escaped;
 pub use expected::Expected;
-pub use expression::{read_line_tree, read_tree, read_tree_with};
+pub use expression::{read_line_tree, read_line_tree_with, read_tree, read_tree_with};
 pub use kind_names::KindNames;
 pub use lines::{dump, dump_node};
 pub use name_error::NameError;

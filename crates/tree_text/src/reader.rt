@@ -1,9 +1,9 @@
 //! The reader of expressions: one step a character, or a run of them within a name or a quoted text.
 
-ghost use Rattle.std.specs.Prelude.{ℕ, ◌≡◌, ◌≢◌, ◌≤◌, ◌-◌, ◌++◌, ◌||◌, ◌==◌, [], take, length, false, true, IfOk, IfErr, OnOk, Some, string_bytes, encode_utf8};
+ghost use Rattle.std.specs.Prelude.{ℕ, ◌≡◌, ◌≢◌, ◌<◌, ◌≤◌, ◌-◌, ◌++◌, ◌||◌, ◌==◌, [], take, length, false, true, IfOk, IfErr, OnOk, Some, string_bytes, encode_utf8};
 ghost use Rattle.cst_core.specs.Green.{branch_tree, IsTooLong};
 ghost use Rattle.cst_core.specs.Tree.{SyntaxTree};
-ghost use Rattle.tree_text.specs.Depth.{depth, depth_limit};
+ghost use Rattle.tree_text.specs.Depth.{depth};
 ghost use Rattle.tree_text.specs.KindNames.{name_in, is_name_byte};
 ghost use Rattle.tree_text.specs.Refusals.{IsRefused};
 ghost use Rattle.tree_text.specs.inner.Nowhere.{Nowhere};
@@ -52,8 +52,9 @@ pub(crate) struct Reader<'a> {
 }
 
 impl<'a> Reader<'a> {
-    pub(crate) fn new(alloc: Global, names: &'a KindNames, gaps: Gaps) -> Reader<'a>
-        ensures first { reading result ≡ first_reading names.now gaps }
+    pub(crate) fn new(alloc: Global, names: &'a KindNames, gaps: Gaps, limit: usize) -> Reader<'a>
+        requires { 0 < limit }
+        ensures first { reading result ≡ first_reading names.now gaps limit }
         ensures reading { IsReading (reading result) }
     {
         // For the proof: the names are names, and no two kinds have the same.
@@ -62,7 +63,7 @@ impl<'a> Reader<'a> {
             alloc,
             names,
             gaps,
-            open: OpenNodes::new(alloc),
+            open: OpenNodes::new(alloc, limit),
             last_kinds: LastKinds::new(),
             last_tokens: LastTokens::new(alloc),
             state: State::Between,
@@ -294,7 +295,7 @@ impl<'a> Reader<'a> {
     /// The tree, at the end of the text.
     pub(crate) fn finish(self) -> Result<GreenNode, ExpressionError>
         requires { IsReading (reading self) }
-        ensures limited { IfOk result (λ n. depth (branch_tree n) ≤ depth_limit) }
+        ensures limited { IfOk result (λ n. depth (branch_tree n) ≤ (reading self.entry).limit) }
         ensures only { (t : SyntaxTree) → IsLeft (reading self.entry) t (unread (reading self.entry))
             → IfOk result (λ n. branch_tree n ≡ t) }
         ensures found { IfOk result (λ n. IsLeft (reading self.entry) (branch_tree n) (unread (reading self.entry))) }

@@ -1,7 +1,7 @@
 -- What becomes of a change in a plan.
 --     by_owner                      by its owner, of a change that is not dropped
 --     fate                          among these changes
---     owner_in, is_dropped_in, is_independent_in    what a fate says
+--     owner_in, is_dropped_in       what a fate says
 use Rattle.std.specs.Prelude.{ℕ, Bool, true, false, cond, List, Option, Some, None}
 use Rattle.edit_change.specs.Nesting.{is_dropped, owner}
 use Rattle.edit_change.specs.declared.change.Change.{Change}
@@ -22,7 +22,3 @@ owner_in _ = None
 abbrev pub is_dropped_in : Fate → Bool
 is_dropped_in Dropped = true
 is_dropped_in _ = false
-
-abbrev pub is_independent_in : Fate → Bool
-is_independent_in Independent = true
-is_independent_in _ = false

@@ -4,11 +4,10 @@
 --     IsLastStop                     the greatest number below this one of which something does not hold, or that there is none
 --     IsFree                         the table has nothing at an address
 --     IsStopAbove                    how many slots lead to the nearest node above one that a table has or that is the payload
---     IsNearestStop                  how many slots lead to the nearest one that a table has, of a node and those above it
 --     HasNoCopy                      an address has no copy
 --     StopsAll                       a table has all first elements of these pairs
 --     IsKept                         a mapping, and a table that has all that it maps
-use Rattle.std.specs.Prelude.{◌≡◌, ◌≢◌, ℕ, ◌+◌, ◌<◌, take, length, Option, None, MatchOption, All}
+use Rattle.std.specs.Prelude.{◌≡◌, ◌≢◌, ℕ, ◌<◌, take, length, Option, None, MatchOption, All}
 use Rattle.cst_core.specs.Path.{Path}
 use Rattle.cst_core.specs.Element.{Address, Element, address}
 use Rattle.cst_core.specs.inner.InTree.{address_path}
@@ -36,9 +35,6 @@ IsFree stops x = number_by_path stops.cells (address_path x) ≡ None
 abbrev pub IsStopAbove : Stops → Element → Element → Option ℕ → Type 0
 IsStopAbove stops node payload stop =
     IsLastStop (Passes (IsFree stops) (address payload) (address node)) (length node.path) stop
-
-abbrev pub IsNearestStop : Stops → Element → Option ℕ → Type 0
-IsNearestStop stops node stop = IsLastStop (λ k. IsFree stops (at_depth (address node) k)) (length node.path + 1) stop
 
 abbrev pub HasNoCopy : Mapping → Address → Type 0
 HasNoCopy m x = copy m x ≡ None

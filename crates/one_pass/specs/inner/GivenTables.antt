@@ -32,7 +32,7 @@ use Rattle.one_pass.specs.inner.Marks.{element_sought, payload_sought, marks_giv
 use Rattle.one_pass.specs.inner.OwnerTables.{AreDependents, AreGiven}
 use Rattle.one_pass.specs.declared.dependent.Dependent.{Dependent}
 use Rattle.one_pass.specs.declared.sought.Registered.{Registered}
-use Rattle.one_pass.specs.declared.walk.Walk.{Walk}
+use Rattle.one_pass.specs.declared.mark.Walk.{Walk}
 
 -- ---- elements, rewritten by what a table has
 module _ (table : GivenTable) where

@@ -35,7 +35,7 @@ use Rattle.edit_change.specs.inner.Aimed.{FormedAim, of_formed}
 use Rattle.edit_change.specs.inner.KindOnly.{kind_only}
 use Rattle.one_pass.specs.declared.marked_element.GivenTable.{GivenTable}
 use Rattle.one_pass.specs.declared.open_node.OpenNode.{OpenNode}
-use Rattle.one_pass.specs.declared.walk.Walk.{Walk}
+use Rattle.one_pass.specs.declared.mark.Walk.{Walk}
 use Rattle.one_pass.specs.inner.Built.{nodes_built}
 use Rattle.one_pass.specs.inner.Marked.{MarkTree, Marking, marked_from, mark_below, marks_of, marks_seen, leads, sought_below, wanted, marks_at, InPathOrder, FromChild, Finds}
 use Rattle.one_pass.specs.inner.Pass.{AreMarkedIn, given_in, Puts, FindsChange}

@@ -30,7 +30,7 @@ use Rattle.edit_change.specs.Rewriting.{rewritten}
 use Rattle.edit_change.specs.inner.Aimed.{aims_of}
 use Rattle.one_pass.specs.inner.Marked.{MarkTree, Marking, marked, marked_from, mark_below, marks_of, marks_seen, wanted, Finds}
 use Rattle.edit_change.specs.declared.aimed.Aimed.{Aimed}
-use Rattle.one_pass.specs.declared.walk.Walk.{Walk}
+use Rattle.one_pass.specs.declared.mark.Walk.{Walk}
 use Rattle.one_pass.specs.declared.mark.Sought.{Sought}
 use Rattle.one_pass.specs.declared.marked_element.MarkedElement.{MarkedElement}
 use Rattle.one_pass.specs.declared.marked_element.GivenTable.{GivenTable}

@@ -27,7 +27,7 @@ use Rattle.edit_change.specs.inner.Aimed.{aims_of}
 use Rattle.one_pass.specs.inner.Marked.{MarkTree, marked, wanted}
 use Rattle.edit_change.specs.Topmost.{paths_of}
 use Rattle.edit_change.specs.declared.aimed.Aimed.{Aimed}
-use Rattle.one_pass.specs.declared.walk.Walk.{Walk}
+use Rattle.one_pass.specs.declared.mark.Walk.{Walk}
 use Rattle.edit_change.specs.Rewriting.{NumberedAim, replacements_at, is_replaced, rewritten_whole}
 use Rattle.edit_change.specs.Effort.{touched, parents_of}
 use Rattle.one_pass.specs.inner.Built.{AreBuilt}

@@ -1,19 +1,19 @@
 -- What is taken from the words that are left of a line.
 --     IsNamed         a word is a name
---     IsKindName      a word is a kind's name
+--     IsKindName      a word is a kind's name, where kinds are given names
 --     IsTaken         the first word says this, and these are left
 --     Begins          the first word says this, whatever is left
 --     IsLast          the one word says this
 use Rattle.std.specs.Prelude.{◌≡◌, ℕ, List, [], ◌∷◌, Some}
-use Rattle.cst_core.specs.Kind.{name_of}
 use Rattle.cst_core.specs.SyntaxKind.{SyntaxKind}
+use Rattle.tree_text.specs.KindNames.{KindName, name_in}
 use Rattle.script_lines.specs.Name.{IsName}
 
 abbrev pub IsNamed : List ℕ → List ℕ → Type 0
 IsNamed word name = (word ≡ name) × IsName name
 
-abbrev pub IsKindName : List ℕ → SyntaxKind → Type 0
-IsKindName word kind = name_of kind.0 ≡ Some word
+abbrev pub IsKindName : List KindName → List ℕ → SyntaxKind → Type 0
+IsKindName given word kind = name_in given kind.0 ≡ Some word
 
 pub record IsTaken {A : Type 0} (Says : List ℕ → A → Type 0) (all left : List (List ℕ)) (a : A) : Type 0 where
   pub word : List ℕ

@@ -3,7 +3,7 @@
 --     IsBadText           the line of a text is bad
 --     TextStops           why it was not carried out
 --     TextGives           what carrying it out gives: whether it was `finish`
---     Reached             lines were carried out up to `finish`, the line with this number
+--     Reached             lines were carried out, in a dialect, up to `finish`, the line with this number
 --     EndIsGood           something is edited, and nothing follows
 --     IsBadEnd            the line that is bad where `finish` is no good end: its own, if nothing is edited, or the first that follows
 --     EndStops            `finish` is no good end
@@ -11,6 +11,7 @@
 use Rattle.std.specs.Prelude.{◌≡◌, ◌⊎◌, ℕ, suc, ◌+◌, Bool, true, false, not, List, ◌∷◌, ◌++◌, length, map, Some, None, Result, Ok, Err, is_some}
 use Rattle.std.specs.List.{list_all, position_or_len}
 use denote.Ref.{Bor}
+use Rattle.script_lines.specs.declared.dialect.Dialect.{Dialect}
 use Rattle.script_lines.specs.Line.{is_blank, IsLine}
 use Rattle.script_lines.specs.ScriptLine.{ScriptLine, Finish}
 use Rattle.syned_script.specs.State.{State, new_state, Editing, Goes, Refuses, IsBad, Steps}
@@ -24,25 +25,26 @@ texts_in lines = map (λ l. l.now) lines
 
 abbrev pub IsBadText : State → List ℕ → Type 0
 IsBadText s text =
-    ((line : ScriptLine) → IsLine text line → ⊥) ⊎ ((line : ScriptLine) × IsLine text line × Steps s line IsBad)
+    ((line : ScriptLine) → IsLine s.language text line → ⊥)
+    ⊎ ((line : ScriptLine) × IsLine s.language text line × Steps s line IsBad)
 
 abbrev pub TextStops : State → List ℕ → Stop → Type 0
 TextStops s text stop =
-    StopsFor (IsBadText s text) (λ r. (line : ScriptLine) × IsLine text line × Steps s line (Refuses r)) stop
+    StopsFor (IsBadText s text) (λ r. (line : ScriptLine) × IsLine s.language text line × Steps s line (Refuses r)) stop
 
 abbrev pub TextGives : State → List ℕ → Result Bool Stop → State → Type 0
-TextGives s text (Ok true) t = IsLine text Finish × (t ≡ s)
-TextGives s text (Ok false) t = (line : ScriptLine) × IsLine text line × Steps s line (Goes t)
+TextGives s text (Ok true) t = IsLine s.language text Finish × (t ≡ s)
+TextGives s text (Ok false) t = (line : ScriptLine) × IsLine s.language text line × Steps s line (Goes t)
 TextGives s text (Err stop) t = TextStops s text stop
 
-pub record Reached (texts : List (List ℕ)) (number : ℕ) (t : State) : Type 0 where
+pub record Reached (d : Dialect) (texts : List (List ℕ)) (number : ℕ) (t : State) : Type 0 where
   pub before : List (List ℕ)
   pub finish : List ℕ
   pub after : List (List ℕ)
   pub is : texts ≡ before ++ finish ∷ after
   pub counted : number ≡ suc (length before)
-  pub carried : Carried before new_state t
-  pub finishes : IsLine finish Finish
+  pub carried : Carried before (new_state d) t
+  pub finishes : IsLine t.language finish Finish
 
 abbrev pub EndIsGood : State → List (List ℕ) → Type 0
 EndIsGood s after = (is_some s.editing ≡ true) × (list_all is_blank after ≡ true)

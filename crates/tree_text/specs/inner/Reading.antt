@@ -1,6 +1,6 @@
 -- A reader of tree expressions, and what it makes of what is left of the text.
---     Reading, reading       what a reader has read: what its next byte belongs to, the word that it reads, the open nodes, the
---                            whole tree; that of this reader
+--     Reading, reading       what a reader has read: what its next byte belongs to, the word that it reads, the open nodes and how
+--                            many may be open, the whole tree; that of this reader
 --     first_reading          one that has read nothing
 --     is_nil, is_outside     a list has nothing; a byte that may not stand outside the outermost node
 --     may_follow_kind        a byte that may stand right behind the kind of a node: a parenthesis, or one of a gap
@@ -30,7 +30,7 @@ use Rattle.std.specs.Prelude.{◌≡◌, ◌≢◌, ◌⊎◌, ℕ, ◌-◌, ◌
 use Rattle.std.specs.List.{list_all}
 use Rattle.cst_core.specs.Green.{Branch, branch_tree, IsTooLong}
 use Rattle.cst_core.specs.Tree.{SyntaxTree, text}
-use Rattle.tree_text.specs.Depth.{depth, depth_limit}
+use Rattle.tree_text.specs.Depth.{depth}
 use Rattle.tree_text.specs.Grammar.{begins_with_name_byte}
 use Rattle.tree_text.specs.KindNames.{KindName, AreNames, is_name, is_name_byte, name_in}
 use Rattle.tree_text.specs.Refusals.{IsRefused, KeepsNames}
@@ -47,6 +47,7 @@ use Rattle.tree_text.specs.declared.reader.State.TheVariants.{Between, NodeKind,
 pub record Reading : Type 0 where
   pub given : List KindName
   pub gaps : Gaps
+  pub limit : ℕ
   pub nodes : List OpenTree
   pub state : State
   pub word : List ℕ
@@ -56,14 +57,16 @@ abbrev pub reading : Reader → Reading
 reading r = record {
   given = r.names.now;
   gaps = r.gaps;
+  limit = r.open.limit;
   nodes = open_trees r.open.nodes.items;
   state = r.state;
   word = string_bytes r.word;
   root = r.root;
 }
 
-abbrev pub first_reading : List KindName → Gaps → Reading
-first_reading given gaps = record { given = given; gaps = gaps; nodes = []; state = Between; word = []; root = None }
+abbrev pub first_reading : List KindName → Gaps → ℕ → Reading
+first_reading given gaps limit =
+    record { given = given; gaps = gaps; limit = limit; nodes = []; state = Between; word = []; root = None }
 
 abbrev pub is_nil : {A : Type 0} → List A → Bool
 is_nil [] = true
@@ -93,7 +96,7 @@ IsPartOfName (Text k) w = Unit {0}
 IsPartOfName (Escape k) w = Unit {0}
 
 pub record IsWhole (r : Reading) (n : Branch) : Type 0 where
-  pub limited : depth (branch_tree n) ≤ depth_limit
+  pub limited : depth (branch_tree n) ≤ r.limit
   pub between : r.state ≡ Between
   pub closed : r.nodes ≡ []
 
@@ -145,6 +148,7 @@ Opens old past new =
 pub record Reads (old : Reading) (bytes : List ℕ) (new : Reading) : Type 0 where
   pub sound : IsReading new
   pub names : new.given ≡ old.given
+  pub limit : new.limit ≡ old.limit
   pub past : List ℕ
   pub is : unread old ++ bytes ≡ past ++ unread new
   pub opens : Opens old past new
@@ -181,8 +185,8 @@ pub record Lacks (r : Reading) (bytes : List ℕ) : Type 0 where
 
 pub record IsDeep (r : Reading) : Type 0 where
   pub opens : r.state ≡ NodeKind
-  pub fits : (t : SyntaxTree) × (w : List ℕ) × (begins_with_name_byte w ≡ false) × IsFrom (name_in r.given) (is_gap r.gaps) r.nodes t w × (depth t ≤ depth_limit)
-  pub only : (t : SyntaxTree) (w : List ℕ) → IsLeft r t w → depth_limit < depth t
+  pub fits : (t : SyntaxTree) × (w : List ℕ) × (begins_with_name_byte w ≡ false) × IsFrom (name_in r.given) (is_gap r.gaps) r.nodes t w × (depth t ≤ r.limit)
+  pub only : (t : SyntaxTree) (w : List ℕ) → IsLeft r t w → r.limit < depth t
 
 pub record GoesOnAs (r : Reading) (bytes : List ℕ) (Are : SyntaxTree → Type 0) : Type 0 where
   pub goes : (t : SyntaxTree) × (w : List ℕ) × IsLeft r t (unread r ++ (bytes ++ w))

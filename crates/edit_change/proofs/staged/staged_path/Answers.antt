@@ -1,4 +1,5 @@
-use Rattle.std.proofs.Common.{◌∙◌, None, Some, ap, ap₂, sym, arith}
+use Rattle.std.proofs.Common.{◌≡◌, ◌∙◌, None, Some, ap, ap₂, sym, arith}
+use Rattle.std.proofs.lemmas.Grind.{common_steps}
 use Rattle.edit_change.specs.ChangeAim.{aim_path}
 use Rattle.edit_change.specs.NewTree.{moved_path}
 use Rattle.edit_change.specs.inner.OwnerPlaces.{places_in, AimsFrom}
@@ -24,8 +25,8 @@ bounds-changes-owner c =
     let within = owner-within cs n d c.in-Some.owner at (sym c.in-Some.is ∙ c.requires.owner) in
     within
 
-pub place_at-requires : goal.place_at-requires
-place_at-requires c =
+pub place_at-place-requires : goal.place_at-place-requires
+place_at-place-requires c =
     let cs = c.args.changes.now in
     let n = c.args.number in
     let d = c.index-changes-number.result in
@@ -33,9 +34,10 @@ place_at-requires c =
     let within = owner-within cs n d c.in-Some.owner at (sym c.in-Some.is ∙ c.requires.owner) in
     omega (arith, within, c.requires.places)
 
-pub returns-in-Some : goal.returns-in-Some
-returns-in-Some c =
+pub returns : goal.returns
+returns c =
     let cs = c.args.changes.now in
+    let places = places_in c.args.places.now in
     let n = c.args.number in
     let d = c.index-changes-number.result in
     let at = change-at cs n d c.requires.there c.index-changes-number.is in
@@ -44,13 +46,14 @@ returns-in-Some c =
     let r = c.index-changes-owner.result in
     let at_o = change-at cs o r (owner-within cs n d o at by) c.index-changes-owner.is in
     let its = owner-is cs n d (Some o) at by in
-    if-ok-weaker _ (λ v. AimsFrom cs (places_in c.args.places.now) n v.items) (λ v is. aims-owned cs (places_in c.args.places.now) c.requires.fit.0 n o d r v.items c.requires.fit.1 at its at_o (is ∙ ap₂ (λ t p. moved_path t p c.aim_path-path.result.now) c.aim_path-target.ensures c.place_at.ensures ∙ ap (λ p. moved_path (aim_path r) (places_in c.args.places.now o) p) c.aim_path-path.ensures)) c.moved_path.result c.moved_path.ensures
+    let moved : c.match-get.moved.items ≡ moved_path c.aim_path-target.result.now c.place_at-place.result.now c.aim_path-path.result.now = grind (arith, common_steps) in
+    aims-owned cs places c.requires.fit.0 n o d r c.match-get.moved.items c.requires.fit.1 at its at_o (moved ∙ ap₂ (λ t p. moved_path t p c.aim_path-path.result.now) c.aim_path-target.ensures c.place_at-place.ensures ∙ ap (λ p. moved_path (aim_path r) (places o) p) c.aim_path-path.ensures)
 
-pub returns-in-None : goal.returns-in-None
-returns-in-None c =
+pub returns-in_default : goal.returns-in_default
+returns-in_default c =
     let cs = c.args.changes.now in
     let n = c.args.number in
     let d = c.index-changes-number.result in
     let at = change-at cs n d c.requires.there c.index-changes-number.is in
-    let its = owner-is cs n d None at (sym c.in-None.is ∙ c.requires.owner) in
+    let its = owner-is cs n d None at (sym c.in_default.is ∙ c.requires.owner) in
     if-ok-weaker _ (λ v. AimsFrom cs (places_in c.args.places.now) n v.items) (λ v is. aims-free cs (places_in c.args.places.now) c.requires.fit.0 n d v.items c.requires.fit.1 at its (is ∙ c.aim_path-path.ensures)) c.from_slice.result c.from_slice.ensures.items

@@ -37,7 +37,7 @@ loop-element-preserved c =
     let e = c.element-item.result in
     let index = c.args.registered.now in
     let cs = map moved_dependent c.args.dependents.now in
-    let aims : aims_of c.deref.result.now ≡ cs = ap aims_of c.deref.ensures.value ∙ c.in_ok-aims.ensures in
+    let aims : aims_of c.deref-in-loop-element.result.now ≡ cs = ap aims_of c.deref-in-loop-element.ensures.value ∙ c.loop-it.invariant ∙ ap (map moved_dependent) (take-whole c.loop-it.it-index c.args.dependents.now c.loop-it-test.false) in
     let f = rewritten kind_only (given_in c.args.given.now) cs [] in
     let more = push-of-take i es e c.loop-element-test.true c.element-item.is in
     let elements : map element_of (take (i + 1) es) ≡ map element_of (take i es) ++ element_of e ∷ [] = ap (map element_of) more ∙ map-append element_of (take i es) (e ∷ []) in
@@ -46,17 +46,17 @@ loop-element-preserved c =
     let own : ℕ = touched (subtree (element_of e)) (parents_of cs) in
     let sum : touched_each cs (map element_of (take (i + 1) es)) ≡ done + own = ap (touched_each cs) elements ∙ sum_by_push (λ x. touched (subtree x) (parents_of cs)) (map element_of (take i es)) (element_of e) in
     let tree = subtree (element_of e) in
-    let raised = subst (λ (ds : List NumberedAim). Raises (AreBuilt ds tree) (touched tree (parents_of ds)) c.loop-element.builds c.rewritten_element.new.walk.builds) aims (subst (λ n. Raises (AreBuilt (aims_of c.deref.result.now) tree) (touched tree (parents_of (aims_of c.deref.result.now))) n c.rewritten_element.new.walk.builds) c.begin-walk.ensures.builds c.in_ok-green.ensures.count) in
+    let raised = subst (λ (ds : List NumberedAim). Raises (AreBuilt ds tree) (touched tree (parents_of ds)) c.loop-element.builds c.rewritten_element.new.walk.builds) aims (subst (λ n. Raises (AreBuilt (aims_of c.deref-in-loop-element.result.now) tree) (touched tree (parents_of (aims_of c.deref-in-loop-element.result.now))) n c.rewritten_element.new.walk.builds) c.begin-walk.ensures.builds c.in_ok-green.ensures.count) in
     let made = c.in_ok-green.ensures.tree ∙ ap (λ (ds : List NumberedAim). rewritten kind_only (given_in c.args.given.now) ds [] tree) aims in
     let before = c.loop-element.entry.items in
     record {
       count = raises-same P (done + own) _ _ _ (sym sum) (raises-both P done own _ c.loop-element.builds _ c.loop-element.invariant.count (raises-weaker (AreBuilt cs (subtree (element_of e))) P own _ _ (one-of (λ x. AreBuilt cs (subtree x)) es i e c.loop-element-test.true c.element-item.is) raised));
-      trees = ap (map (λ (x : MarkedElement). element_tree x.element)) c.in_ok-push.ensures.items ∙ map-append (λ (x : MarkedElement). element_tree x.element) before (_ ∷ []) ∙ ap₂ (λ ts t. ts ++ t ∷ []) c.loop-element.invariant.trees made ∙ sym (ap (λ xs. map f (map subtree xs)) elements ∙ ap (map f) (map-append subtree (map element_of (take i es)) (element_of e ∷ [])) ∙ map-append f (map subtree (map element_of (take i es))) (subtree (element_of e) ∷ []));
+      trees = ap (map (λ (x : MarkedElement). element_tree x.element)) c.in_ok-push-2.ensures.items ∙ map-append (λ (x : MarkedElement). element_tree x.element) before (_ ∷ []) ∙ ap₂ (λ ts t. ts ++ t ∷ []) c.loop-element.invariant.trees made ∙ sym (ap (λ xs. map f (map subtree xs)) elements ∙ ap (map f) (map-append subtree (map element_of (take i es)) (element_of e ∷ [])) ∙ map-append f (map subtree (map element_of (take i es))) (subtree (element_of e) ∷ []));
       marks = λ trees are.
           let g = element_sought index trees cs in
           let shown = marked (g (element_of e)) in
           let own = c.in_ok-green.ensures.marks trees are ∙ ap (λ (ds : List NumberedAim). marks_of c.begin-walk.result.found.items ++ map (mark_below c.begin-walk.result.path.items) (marked (element_sought index trees ds (element_of e)))) aims ∙ ap₂ (λ ms p. marks_of ms ++ map (mark_below p) shown) c.begin-walk.ensures.found c.begin-walk.ensures.path ∙ map-id shown in
-          ap (λ xs. map marked (map g xs)) elements ∙ ap (map marked) (map-append g (map element_of (take i es)) (element_of e ∷ [])) ∙ map-append marked (map g (map element_of (take i es))) (g (element_of e) ∷ []) ∙ ap₂ (λ xs x. xs ++ x ∷ []) (c.loop-element.invariant.marks trees are) (sym own) ∙ sym (ap (map (marks_there None)) c.in_ok-push.ensures.items ∙ map-append (marks_there None) before (_ ∷ []));
+          ap (λ xs. map marked (map g xs)) elements ∙ ap (map marked) (map-append g (map element_of (take i es)) (element_of e ∷ [])) ∙ map-append marked (map g (map element_of (take i es))) (g (element_of e) ∷ []) ∙ ap₂ (λ xs x. xs ++ x ∷ []) (c.loop-element.invariant.marks trees are) (sym own) ∙ sym (ap (map (marks_there None)) c.in_ok-push-2.ensures.items ∙ map-append (marks_there None) before (_ ∷ []));
     }
 
 pub returns-clause-count : goal.returns-clause-count

@@ -6,8 +6,12 @@ use Rattle.one_pass.specs.inner.Built.{AreBuilt}
 use Rattle.one_pass.specs.inner.Pass.{given_trees}
 use Rattle.one_pass.specs.inner.GivenTables.{each_rewritten, AreMarkedEach}
 use Rattle.one_pass.specs.inner.OwnerTables.{moved_dependent}
+use Rattle.edit_change.specs.inner.Aimed.{aims_of}
 use Rattle.edit_change.specs.TouchedNodes.{touched_each, Raises}
 use Rattle.one_pass.proofs.given_table.given_by.Given as goal
+
+abbrev pub invariant-loop-it : goal.invariant-loop-it
+invariant-loop-it l = aims_of l.aims.items ≡ map moved_dependent (take l.it-index l.dependents)
 
 abbrev pub invariant-loop-element : goal.invariant-loop-element
 invariant-loop-element l = record {

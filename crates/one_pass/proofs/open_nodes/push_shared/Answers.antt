@@ -1,14 +1,13 @@
-use Rattle.std.proofs.Common.{◌≡◌, ◌+◌, ◌-◌, ◌<◌, ◌≤◌, ℕ, List, [], ◌∷◌, ◌++◌, false, true, cond, map, drop, length, get_or, slice_get, None, Some, refl, arith, rules, ap, ap₂, sym, ◌∙◌}
+use Rattle.std.proofs.Common.{◌≡◌, ◌+◌, ◌-◌, ◌<◌, ◌≤◌, ℕ, Bool, List, [], ◌∷◌, ◌++◌, false, true, cond, map, drop, length, get_or, slice_get, None, Some, refl, arith, rules, ap, ap₂, sym, ◌∙◌}
 use Rattle.std.specs.Option.{option_map_or}
 use Rattle.std.proofs.lemmas.Bool.{lt-ltb, le-ltb}
-use Rattle.std.proofs.lemmas.List.{append-nil, append_assoc}
+use Rattle.std.proofs.lemmas.List.{append-nil, append_assoc, drop-drop}
 use Rattle.std.proofs.lemmas.Option.{slice_get_read, slice_get_past}
 use Rattle.green_tree.specs.Path.{Path}
 use Rattle.green_tree.specs.GreenElement.{element_tree}
 use Rattle.green_tree.specs.declared.green.GreenElement.{GreenElement}
-use Rattle.one_pass.specs.inner.Marked.{Marking, mark_below, marks_of, leads}
+use Rattle.one_pass.specs.inner.Marked.{Marking, mark_below, marks_of, marks_seen, leads, kept_in}
 use Rattle.one_pass.specs.inner.OpenNodes.{carried_to}
-use Rattle.one_pass.proofs.NextAim.{part-rest}
 use Rattle.one_pass.proofs.open_nodes.push_shared.Goals as goal
 
 module _ (place first : ℕ) (es : List GreenElement) (n : ℕ) where
@@ -54,16 +53,10 @@ returns-in_default-get-clause-marks c =
     let carried = λ (r : Path). carried_to (length top.out.items) c.args.first top.elements.now c.args.mark.now.number r in
     nothing c.args.walk.now.path.items (marks_of c.args.walk.now.found.items) _ (ap carried (sym c.path_from.ensures) ∙ no-child (length top.out.items) c.args.first top.elements.now c.args.mark.now.number q c.in-len1-up.len_at_least c.if-slot-first.false (slice_get_past top.elements.now _ c.in_default-get.ensures.lookup.3))
 
-pub returns-then-not-leads-clause-marks : goal.returns-then-not-leads-clause-marks
-returns-then-not-leads-clause-marks c =
-    let top = c.args.top.now in
-    let q = c.path_from.result.now in
-    let found = c.in-Some.ensures.lookup in
-    let child = c.in-Some.child.now in
-    let there = slice_get_read top.elements.now (length top.elements.now) _ child refl found.3.0 found.1 in
-    let no : leads (element_tree child) (drop 1 q) ≡ false = ap (leads (element_tree child)) (sym (part-rest q 1)) ∙ sym c.leads.ensures ∙ c.if-not-leads.true in
-    let carried = λ (r : Path). carried_to (length top.out.items) c.args.first top.elements.now c.args.mark.now.number r in
-    nothing c.args.walk.now.path.items (marks_of c.args.walk.now.found.items) _ (ap carried (sym c.path_from.ensures) ∙ in-child (length top.out.items) c.args.first top.elements.now c.args.mark.now.number q child c.in-len1-up.len_at_least c.if-slot-first.false there ∙ ap (λ b. cond {A = List Marking} b ((c.args.mark.now.number, (length top.out.items + (get_or q 0 0 - c.args.first)) ∷ drop 1 q) ∷ []) []) no)
+-- a mark below the child, if its path leads on there
+shifted : (b : Bool) (path : Path) (to n : ℕ) (r : Path) → map (mark_below (path ++ to ∷ [])) (cond {A = List Marking} b ((n, r) ∷ []) []) ≡ map (mark_below path) (cond {A = List Marking} b ((n, to ∷ r) ∷ []) [])
+shifted true path to n r = ap (λ p. (n, p) ∷ []) (append_assoc path (to ∷ []) r)
+shifted false path to n r = refl
 
 pub returns-clause-marks : goal.returns-clause-marks
 returns-clause-marks c =
@@ -74,11 +67,13 @@ returns-clause-marks c =
     let before = marks_of c.args.walk.now.found.items in
     let found = c.in-Some.ensures.lookup in
     let child = c.in-Some.child.now in
+    let tree = element_tree child in
     let there = slice_get_read top.elements.now (length top.elements.now) _ child refl found.3.0 found.1 in
-    let yes : leads (element_tree child) (drop 1 q) ≡ true = ap (leads (element_tree child)) (sym (part-rest q 1)) ∙ sym c.leads.ensures ∙ c.if-not-leads.false in
     let place : c.len.result ≡ length top.out.items = search rules in
     let to : ℕ = length top.out.items + (get_or q 0 0 - c.args.first) in
     let carried = λ (r : Path). carried_to (length top.out.items) c.args.first top.elements.now n r in
-    let is = ap carried (sym c.path_from.ensures) ∙ in-child (length top.out.items) c.args.first top.elements.now n q child c.in-len1-up.len_at_least c.if-slot-first.false there ∙ ap (λ b. cond {A = List Marking} b ((n, to ∷ drop 1 q) ∷ []) []) yes in
+    let is = ap carried (sym c.path_from.ensures) ∙ in-child (length top.out.items) c.args.first top.elements.now n q child c.in-len1-up.len_at_least c.if-slot-first.false there in
     let whole = c.deref.ensures.value ∙ c.in_ok-push.ensures.items ∙ ap (λ k. path ++ (k + (get_or q 0 0 - c.args.first)) ∷ []) place in
-    c.in_ok-push_mark.ensures ∙ ap (λ r. before ++ (n, r) ∷ []) (ap₂ (λ p b. p ++ b) whole (part-rest q 1) ∙ append_assoc path (to ∷ []) (drop 1 q)) ∙ ap (λ ms. before ++ map (mark_below path) ms) (sym is)
+    let deeper : drop (top.depth + 1) c.args.mark.now.path.now ≡ drop 1 q = sym (drop-drop 1 top.depth c.args.mark.now.path.now) ∙ ap (drop 1) (sym c.path_from.ensures) in
+    let one = ap₂ (λ p xs. map (mark_below p) (kept_in tree (marks_seen (top.depth + 1) xs))) whole c.from_ref-here.ensures.value in
+    c.in_ok-push_kept.ensures ∙ ap (λ ms. before ++ ms) (one ∙ ap (λ (r : Path). map (mark_below (path ++ to ∷ [])) (kept_in tree ((n, r) ∷ []))) deeper ∙ shifted (leads tree (drop 1 q)) path to n (drop 1 q) ∙ ap (map (mark_below path)) (sym is))

@@ -41,13 +41,13 @@ last-at (y ∷ xs) x zero d is = absurd (omega (arith, is))
 last-at (y ∷ xs) x (suc k) d is = last-at xs x k d (omega (arith, is))
 
 pub root_replacement-replacement-requires-clause-aims : goal.root_replacement-replacement-requires-clause-aims
-root_replacement-replacement-requires-clause-aims c = ap aims_of c.deref-3.ensures.value ∙ c.in_ok-aims.ensures
+root_replacement-replacement-requires-clause-aims c = ap aims_of c.deref-3.ensures.value ∙ c.in_ok-free.ensures.free
 
 pub rewritten_root-requires-clause-one : goal.rewritten_root-requires-clause-one
 rewritten_root-requires-clause-one c =
     let planned = c.args.planned in
     let places = places_in planned.places.now in
-    let are : AreDependents planned.changes.now places c.deref.result.now = subst (AreDependents planned.changes.now places) (sym c.deref.ensures.value) c.in_ok-dependents.ensures.dependents in
+    let are : AreDependents planned.changes.now places c.deref.result.now = subst (AreDependents planned.changes.now places) (sym c.deref.ensures.value) c.in_ok-free.ensures.owned in
     let table : GivenTable = record { entries = c.in_ok-given.given.entries; top = Some (length c.args.registered.now) } in
     let told = c.root_replacement-replacement.ensures in
     if-given (independents planned.changes.now) table (subtree planned.root.now) c.root_replacement-replacement.result told.alone (told.node places table (c.in_ok-given.ensures.given places are))
@@ -56,9 +56,9 @@ pub unreachable-requires : goal.unreachable-requires
 unreachable-requires c =
     let planned = c.args.planned in
     let places = places_in planned.places.now in
-    let are : AreDependents planned.changes.now places c.deref.result.now = subst (AreDependents planned.changes.now places) (sym c.deref.ensures.value) c.in_ok-dependents.ensures.dependents in
+    let are : AreDependents planned.changes.now places c.deref.result.now = subst (AreDependents planned.changes.now places) (sym c.deref.ensures.value) c.in_ok-free.ensures.owned in
     let table : GivenTable = record { entries = c.in_ok-given.given.entries; top = Some (length c.args.registered.now) } in
-    let aims = ap aims_of c.deref-4.ensures.value ∙ c.in_ok-aims.ensures in
+    let aims = ap aims_of c.deref-4.ensures.value ∙ c.in_ok-free.ensures.free in
     let one = c.root_replacement-replacement.ensures.node places table (c.in_ok-given.ensures.given places are) in
     not-token (element_tree c.in_ok-made.made) (ap (λ e. is_token (element_tree e)) c.in_default.is) (subst IsOneNode (ap (λ ds. rewritten_whole kind_only (given_in table) ds (subtree planned.root.now)) (sym aims) ∙ c.in_ok-made.ensures.tree) one)
 
@@ -69,7 +69,7 @@ returns-clause-made c =
     let changes = planned.changes.now in
     let places = places_in planned.places.now in
     let es = c.args.registered.now in
-    let are : AreDependents changes places c.deref.result.now = subst (AreDependents changes places) (sym c.deref.ensures.value) c.in_ok-dependents.ensures.dependents in
+    let are : AreDependents changes places c.deref.result.now = subst (AreDependents changes places) (sym c.deref.ensures.value) c.in_ok-free.ensures.owned in
     let table : GivenTable = record { entries = c.in_ok-given.given.entries; top = Some (length es) } in
     let found = marks_of c.rewritten_root.new.walk.found.items in
     let copies = c.pop.new.self.items in
@@ -90,7 +90,7 @@ returns-clause-made c =
       with_top = refl;
       same_entries = refl;
       aims = aims_of c.deref-4.result.now;
-      aims_are = ap aims_of c.deref-4.ensures.value ∙ c.in_ok-aims.ensures;
+      aims_are = ap aims_of c.deref-4.ensures.value ∙ c.in_ok-free.ensures.free;
       trees_are = sym c.in_ok-made.ensures.tree;
       marks_answered = λ gs marked_are.
           let it = finds gs marked_are in
@@ -105,9 +105,9 @@ returns-clause-count c =
     let root = planned.root.now in
     let changes = planned.changes.now in
     let places = places_in planned.places.now in
-    let are : AreDependents changes places c.deref.result.now = subst (AreDependents changes places) (sym c.deref.ensures.value) c.in_ok-dependents.ensures.dependents in
+    let are : AreDependents changes places c.deref.result.now = subst (AreDependents changes places) (sym c.deref.ensures.value) c.in_ok-free.ensures.owned in
     let middle = c.given_table.new.builds in
     let after = c.rewritten_root.new.walk.builds in
-    let aims = ap aims_of c.deref-4.ensures.value ∙ c.in_ok-aims.ensures in
+    let aims = ap aims_of c.deref-4.ensures.value ∙ c.in_ok-free.ensures.free in
     let tree = subst (λ n. Raises (AreBuilt (aims_of c.deref-4.result.now) (subtree root)) (touched (subtree root) (parents_of (aims_of c.deref-4.result.now))) n after) c.begin-walk.ensures.builds c.in_ok-made.ensures.count in
     all-counted root changes places c.args.builds.now middle after (c.in_ok-given.ensures.count places are) (subst (λ ds. Raises (AreBuilt ds (subtree root)) (touched (subtree root) (parents_of ds)) middle after) aims tree)

@@ -14,7 +14,6 @@ use Rattle.edit_change.specs.NewTree.{independents}
 use Rattle.edit_change.specs.PositionForm.{FirstChild, After}
 use Rattle.edit_change.specs.Rewriting.{NumberedAim, is_replaced}
 use Rattle.edit_change.specs.inner.Aimed.{aims_of, numbered}
-use Rattle.edit_change.specs.inner.Open.{surrounds}
 use Rattle.edit_change.specs.declared.aimed.Aimed.{Aimed}
 use Rattle.edit_change.specs.declared.aimed.AimForm.TheVariants as form
 use Rattle.edit_change.specs.declared.change.Change.{Change}
@@ -29,16 +28,6 @@ abbrev none : Aimed
 none = record { change = 0; path = record { ref_ptr = (0, 0); now = [] }; form = form.FirstIn }
 
 -- ---- an aim over the top
-top-alone : (qs : List Path) → list_any (has_path ([] ∷ [])) qs ≡ has_path qs []
-top-alone [] = refl
-top-alone ([] ∷ qs) = refl
-top-alone ((i ∷ q) ∷ qs) = top-alone qs
-
-over-top : (a : Aim) → surrounds ([] ∷ []) a ≡ replaces [] a
-over-top (FirstIn p) = refl
-over-top (AfterElement p) = refl
-over-top (Over qs) = top-alone qs
-
 root-among : (d : Change) → replaces [] (aim d) ≡ true → has_path (targets d) [] ≡ true
 root-among (Insert (FirstChild n) e) h = absurd (false≢true h)
 root-among (Insert (After f) e) h = absurd (false≢true h)
@@ -78,7 +67,7 @@ passed xs k l h =
 pub loop-aim-preserved : goal.loop-aim-preserved
 loop-aim-preserved c =
     let x = get_or c.args.aims.now c.loop-aim.aim-index none in
-    let no = sym (c.surrounds.ensures ∙ over-top (numbered x).1) ∙ c.if-surrounds.false in
+    let no = sym c.replaces.ensures ∙ c.if-replaces.false in
     let next : c.loop-aim.aim-index + 1 ≡ suc c.loop-aim.aim-index = omega arith in
     ap (λ n. is_replaced (aims_of (drop n c.args.aims.now)) []) next ∙ passed c.args.aims.now c.loop-aim.aim-index c.loop-aim-test.true no ∙ c.loop-aim.invariant
 
@@ -88,7 +77,7 @@ bounds-changes-aim c =
     let xs = c.args.aims.now in
     let k = c.loop-aim.aim-index in
     let x = get_or xs k none in
-    let it = replacing cs xs k c.loop-aim-test.true c.requires.aims (sym (c.surrounds.ensures ∙ over-top (numbered x).1) ∙ c.if-surrounds.true) in
+    let it = replacing cs xs k c.loop-aim-test.true c.requires.aims (sym c.replaces.ensures ∙ c.if-replaces.true) in
     slice_get_within cs x.change it.0 it.1
 
 pub offset_bounds-changes-aim : goal.offset_bounds-changes-aim
@@ -97,7 +86,7 @@ offset_bounds-changes-aim c =
     let xs = c.args.aims.now in
     let k = c.loop-aim.aim-index in
     let x = get_or xs k none in
-    let it = replacing cs xs k c.loop-aim-test.true c.requires.aims (sym (c.surrounds.ensures ∙ over-top (numbered x).1) ∙ c.if-surrounds.true) in
+    let it = replacing cs xs k c.loop-aim-test.true c.requires.aims (sym c.replaces.ensures ∙ c.if-replaces.true) in
     let within : x.change < length cs = slice_get_within cs x.change it.0 it.1 in
     omega (arith, within, c.well_formed)
 
@@ -107,7 +96,7 @@ node_for_root-requires-clause-fits c =
     let xs = c.args.aims.now in
     let k = c.loop-aim.aim-index in
     let x = get_or xs k none in
-    let it = replacing cs xs k c.loop-aim-test.true c.requires.aims (sym (c.surrounds.ensures ∙ over-top (numbered x).1) ∙ c.if-surrounds.true) in
+    let it = replacing cs xs k c.loop-aim-test.true c.requires.aims (sym c.replaces.ensures ∙ c.if-replaces.true) in
     let d = c.index-changes-aim.result in
     (c.args.root.now, subst (Fits c.args.root.now) (sym c.index-changes-aim.is) (c.requires.fit x.change d (slice_get_within cs x.change it.0 it.1)))
 
@@ -117,36 +106,36 @@ node_for_root-requires-clause-root c =
     let xs = c.args.aims.now in
     let k = c.loop-aim.aim-index in
     let x = get_or xs k none in
-    let it = replacing cs xs k c.loop-aim-test.true c.requires.aims (sym (c.surrounds.ensures ∙ over-top (numbered x).1) ∙ c.if-surrounds.true) in
+    let it = replacing cs xs k c.loop-aim-test.true c.requires.aims (sym c.replaces.ensures ∙ c.if-replaces.true) in
     let d = c.index-changes-aim.result in
     let at = at-index cs x.change d (slice_get_within cs x.change it.0 it.1) c.index-changes-aim.is in
     ap (λ (e : Change). has_path (targets e) []) (same_Some d it.0 (sym at ∙ it.1)) ∙ it.2
 
-pub returns-then-surrounds-clause-alone : goal.returns-then-surrounds-clause-alone
-returns-then-surrounds-clause-alone c =
+pub returns-then-replaces-clause-alone : goal.returns-then-replaces-clause-alone
+returns-then-replaces-clause-alone c =
     let cs = c.args.changes.now in
     let xs = c.args.aims.now in
     let k = c.loop-aim.aim-index in
     let x = get_or xs k none in
-    let it = replacing cs xs k c.loop-aim-test.true c.requires.aims (sym (c.surrounds.ensures ∙ over-top (numbered x).1) ∙ c.if-surrounds.true) in
+    let it = replacing cs xs k c.loop-aim-test.true c.requires.aims (sym c.replaces.ensures ∙ c.if-replaces.true) in
     root-alone cs x.change it.0 c.requires.apart it.1 it.2
 
-pub returns-then-surrounds-clause-there : goal.returns-then-surrounds-clause-there
-returns-then-surrounds-clause-there c =
+pub returns-then-replaces-clause-there : goal.returns-then-replaces-clause-there
+returns-then-replaces-clause-there c =
     let cs = c.args.changes.now in
     let xs = c.args.aims.now in
     let k = c.loop-aim.aim-index in
     let x = get_or xs k none in
-    let it = replacing cs xs k c.loop-aim-test.true c.requires.aims (sym (c.surrounds.ensures ∙ over-top (numbered x).1) ∙ c.if-surrounds.true) in
+    let it = replacing cs xs k c.loop-aim-test.true c.requires.aims (sym c.replaces.ensures ∙ c.if-replaces.true) in
     slice_get_within cs x.change it.0 it.1
 
-pub returns-then-surrounds-clause-node : goal.returns-then-surrounds-clause-node
-returns-then-surrounds-clause-node c =
+pub returns-then-replaces-clause-node : goal.returns-then-replaces-clause-node
+returns-then-replaces-clause-node c =
     let cs = c.args.changes.now in
     let xs = c.args.aims.now in
     let k = c.loop-aim.aim-index in
     let x = get_or xs k none in
-    let it = replacing cs xs k c.loop-aim-test.true c.requires.aims (sym (c.surrounds.ensures ∙ over-top (numbered x).1) ∙ c.if-surrounds.true) in
+    let it = replacing cs xs k c.loop-aim-test.true c.requires.aims (sym c.replaces.ensures ∙ c.if-replaces.true) in
     let d = c.index-changes-aim.result in
     let at = at-index cs x.change d (slice_get_within cs x.change it.0 it.1) c.index-changes-aim.is in
     let there = ap (λ (e : Change). has_path (targets e) []) (same_Some d it.0 (sym at ∙ it.1)) ∙ it.2 in

@@ -9,7 +9,7 @@ use Rattle.one_pass.proofs.TextOrders.{pieces-given}
 use Rattle.one_pass.proofs.text_changes.text_edits.Goals as goal
 
 pub root_replacement-replacement-requires-clause-aims : goal.root_replacement-replacement-requires-clause-aims
-root_replacement-replacement-requires-clause-aims c = ap aims_of c.deref-2.ensures.value ∙ c.in_ok-aims.ensures
+root_replacement-replacement-requires-clause-aims c = ap aims_of c.deref-2.ensures.value ∙ c.in_ok-free.ensures.free
 
 pub returns : goal.returns
 returns c =
@@ -18,8 +18,8 @@ returns c =
     let changes = planned.changes.now in
     let places = places_in planned.places.now in
     let table = c.in_ok-given.given in
-    let are : AreDependents changes places c.deref.result.now = subst (AreDependents changes places) (sym c.deref.ensures.value) c.in_ok-dependents.ensures.dependents in
-    let aims = ap aims_of c.deref-3.ensures.value ∙ c.in_ok-aims.ensures in
+    let are : AreDependents changes places c.deref.result.now = subst (AreDependents changes places) (sym c.deref.ensures.value) c.in_ok-free.ensures.owned in
+    let aims = ap aims_of c.deref-3.ensures.value ∙ c.in_ok-free.ensures.free in
     let order = c.deref-4.ensures.value ∙ c.in_ok-numbers.ensures ∙ ap (λ cs. in_order_of changes cs (subtree root)) aims in
     let is = ap (flat_map (pieces_by root changes table)) order ∙ pieces-given root changes places table (c.in_ok-given.ensures.given places are) in
     if_ok-map _ _ c.edits_in_order.result (λ v h. h ∙ is) c.edits_in_order.ensures

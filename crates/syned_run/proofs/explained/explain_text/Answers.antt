@@ -2,6 +2,7 @@ use Rattle.std.proofs.Common.{ℕ, List, Result, IfOk, Option, String, string_by
 use Rattle.std.specs.Global.{Global}
 use Rattle.std.specs.Option.{MatchOption}
 use Rattle.std.specs.declared.alloc.AllocError.{AllocError}
+use Rattle.script_lines.specs.declared.dialect.Dialect.{Dialect}
 use Rattle.syned_script.specs.Script.{Edited}
 use Rattle.syned_run.specs.Answer.{printed}
 use Rattle.syned_run.specs.inner.Responding.{OutcomeIn, IsReasonOf}
@@ -9,18 +10,18 @@ use Rattle.syned_run.proofs.Reasons.{stops-without}
 use Rattle.syned_run.proofs.explained.explain_text.Goals as goal
 use Rattle.syned_run.proofs.explained.explain_text.Goals.{in-Ok, in-Err+in_ok-of_stop-in-Err}
 
-abbrev IsTold : List ℕ → Result (Option (String Global)) AllocError → Type 0
-IsTold script r = IfOk r (λ o. MatchOption o (OutcomeIn script 0) (λ reason. IsReasonOf script (string_bytes reason)))
+abbrev IsTold : Dialect → List ℕ → Result (Option (String Global)) AllocError → Type 0
+IsTold d script r = IfOk r (λ o. MatchOption o (OutcomeIn d script 0) (λ reason. IsReasonOf d script (string_bytes reason)))
 
 pub returns : goal.returns
 returns c =
     let script = c.args.script.now in
-    elim c.match-carry_out.branch [
+    elim c.match-carry_out_for.branch [
       | in-Ok w ↦
           let outcome = Edited w.in-Ok.field-0.edit w.in-Ok.field-0.words in
-          subst (IsTold script) (sym w.result-is) (printed outcome, (outcome, w.in-Ok.ensures.ok, refl, refl))
+          subst (IsTold c.args.dialect script) (sym w.result-is) (printed outcome, (outcome, w.in-Ok.ensures.ok, refl, refl))
       | in-Err+in_ok-of_stop-in-Err w ↦
           let said = w.in_ok-of_stop-in-Err.ensures in
           let stopped = w.in-Err.stopped in
-          subst (IsTold script) (sym w.result-is) (said.said, stops-without script stopped.line stopped.stop said.remembered w.in-Err.ensures.err)
+          subst (IsTold c.args.dialect script) (sym w.result-is) (said.said, stops-without c.args.dialect script stopped.line stopped.stop said.remembered w.in-Err.ensures.err)
     ]

@@ -6,4 +6,4 @@ use Rattle.syned_script.specs.inner.Run.{texts_in}
 use Rattle.syned_script.proofs.carried_out.record.Given as goal
 
 abbrev pub invariant-loop-index : goal.invariant-loop-index
-invariant-loop-index l = Carried (take l.index (texts_in l.lines)) new_state (state_of l.session)
+invariant-loop-index l = Carried (take l.index (texts_in l.lines)) (new_state l.initial.session.language.dialect) (state_of l.session)

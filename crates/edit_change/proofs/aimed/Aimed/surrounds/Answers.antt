@@ -1,33 +1,22 @@
-use Rattle.std.proofs.Common.{length, sym, ◌∙◌}
-use Rattle.std.proofs.lemmas.Bool.{eqb-false}
-use Rattle.edit_change.proofs.Surrounding.{none-surrounds, beside, ends-above, leads-before, leads-test}
+use Rattle.std.proofs.Common.{◌≡◌, ◌≤◌, ◌<◌, take, length, sym, ap, ◌∙◌, arith}
+use Rattle.std.proofs.lemmas.Grind.{common_steps}
+use Rattle.edit_change.specs.Aim.{replaces}
+use Rattle.edit_change.specs.inner.Aimed.{aim_in}
+use Rattle.edit_change.proofs.Surrounding.{none-surrounds, way-replaced, too-short}
 use Rattle.edit_change.proofs.aimed.Aimed.surrounds.Goals as goal
 
-pub returns-in_default-path : goal.returns-in_default-path
-returns-in_default-path c = rw (c.in_default-path.is, c.in-Over.is) (none-surrounds c.args.self.now.path.now c.in-Over.count)
+pub returns-in_default : goal.returns-in_default
+returns-in_default c = rw c.in_default.is (none-surrounds c.args.self.now.path.now c.args.self.now.form)
 
-pub returns-in_default-strip_prefix : goal.returns-in_default-strip_prefix
-returns-in_default-strip_prefix c =
-    let p = c.args.self.now.path.now in
-    let some = eqb-false (length p) 0 (sym c.is_empty.ensures ∙ c.if-is_empty.false) in
-    rw (c.in-Some.is, c.in-Over.is) (beside p c.in-Some.path.now some c.in-Over.count c.parent.result.now c.parent.ensures c.in_default-strip_prefix.ensures.cases)
-
-pub returns-in_default-below : goal.returns-in_default-below
-returns-in_default-below c =
-    let p = c.args.self.now.path.now in
-    let some = eqb-false (length p) 0 (sym c.is_empty.ensures ∙ c.if-is_empty.false) in
-    rw (c.in-Some.is, c.in-Over.is) (ends-above p c.in-Some.path.now some c.in-Over.count c.parent.result.now c.parent.ensures c.in-Some-strip_prefix.below.now c.in-Some-strip_prefix.ensures.cases.1 c.in_default-below.len_below)
-
-pub returns-then-slot-first : goal.returns-then-slot-first
-returns-then-slot-first c =
-    let p = c.args.self.now.path.now in
-    let some = eqb-false (length p) 0 (sym c.is_empty.ensures ∙ c.if-is_empty.false) in
-    let cases = c.in-Some-strip_prefix.ensures.cases in
-    rw (c.in-Some.is, c.in-Over.is) (leads-before p c.in-Some.path.now some c.in-Over.count c.parent.result.now c.parent.ensures c.in-Some-strip_prefix.below.now cases.0 cases.1 c.in-len1-up.len_at_least c.slot-first.result c.slot-first.ensures c.if-slot-first.true)
+pub returns-in_default-get : goal.returns-in_default-get
+returns-in_default-get c =
+    let short : length c.in-Some.path.now < length c.args.self.now.path.now = grind (arith, common_steps) in
+    rw c.in-Some.is (too-short c.args.self.now.path.now c.args.self.now.form c.in-Some.path.now short)
 
 pub returns : goal.returns
 returns c =
     let p = c.args.self.now.path.now in
-    let some = eqb-false (length p) 0 (sym c.is_empty.ensures ∙ c.if-is_empty.false) in
-    let cases = c.in-Some-strip_prefix.ensures.cases in
-    rw (c.in-Some.is, c.in-Over.is) (leads-test p c.in-Some.path.now some c.in-Over.count c.parent.result.now c.parent.ensures c.in-Some-strip_prefix.below.now cases.0 cases.1 c.in-len1-up.len_at_least c.slot-first.result c.slot-first.ensures c.if-slot-first.false)
+    let q = c.in-Some.path.now in
+    let long : length p ≤ length q = grind (arith, common_steps) in
+    let way : c.in-Some-get.way.now ≡ take (length p) q = grind (arith, common_steps) in
+    rw c.in-Some.is (c.replaces.ensures ∙ ap (λ r. replaces r (aim_in p c.args.self.now.form)) way ∙ way-replaced p c.args.self.now.form q long)

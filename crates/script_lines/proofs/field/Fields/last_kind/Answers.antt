@@ -5,9 +5,9 @@ use Rattle.script_lines.proofs.field.Fields.last_kind.Goals as goal
 pub returns-clause-ok : goal.returns-clause-ok
 returns-clause-ok c =
     let word = c.in_ok-field.field.text.now in
-    kind-read _ word c.from_name.result c.wanted.result c.ok_or.result (c.in_ok-field.ensures.ok ∙ ap (λ l. word ∷ l) c.in_ok-end.ensures.ok) c.from_name.ensures c.ok_or.ensures.value
+    kind-read c.args.names.now _ word (c.in_ok-field.ensures.ok ∙ ap (λ l. word ∷ l) c.in_ok-end.ensures.ok) c.kind.result c.wanted.result c.ok_or.result c.kind.ensures.found c.ok_or.ensures.value
 
 pub returns-clause-bad : goal.returns-clause-bad
 returns-clause-bad c =
     let word = c.in_ok-field.field.text.now in
-    no-kind _ word c.from_name.result c.wanted.result c.ok_or.result (c.in_ok-field.ensures.ok ∙ ap (λ l. word ∷ l) c.in_ok-end.ensures.ok) c.from_name.ensures c.ok_or.ensures.value
+    no-kind c.args.names.now _ word (c.in_ok-field.ensures.ok ∙ ap (λ l. word ∷ l) c.in_ok-end.ensures.ok) c.kind.result c.wanted.result c.ok_or.result c.kind.ensures.none c.ok_or.ensures.value

@@ -1,14 +1,14 @@
 use Rattle.std.proofs.Common.{◌∷◌, [], map, ◌∙◌, ap}
 use Rattle.std.proofs.lemmas.List.{map-append}
 use Rattle.script_lines.specs.Line.{Each, IsRef, words}
-use Rattle.script_lines.specs.LineValue.{ref_of, refs_of}
-use Rattle.script_lines.proofs.EachOne.{some-at, texts, told-more}
+use Rattle.script_lines.specs.LineValue.{ref_of, refs_of, texts_of}
+use Rattle.script_lines.proofs.EachOne.{some-at, told-more}
 use Rattle.script_lines.proofs.Refusing.{err-also}
 use Rattle.script_lines.proofs.field.Fields.references.Goals as goal
 
 pub returns-in_err-read-clause-bad : goal.returns-in_err-read-clause-bad
 returns-in_err-read-clause-bad c =
-    let all = ap texts c.deref-field-items.ensures.value ∙ c.in_ok-fields.ensures in
+    let all = ap texts_of c.deref-field-items.ensures.value ∙ c.in_ok-fields.ensures in
     err-also _ (Each IsRef (words c.args.self.now.rest.now)) c.from_residual-in_err-read.result c.in_err-read.field-0.0 c.from_residual-in_err-read.ensures.1 (some-at IsRef c.deref-field-items.result.now _ c.loop-field.field-index _ all c.loop-field-test.true) c.in_err-read.ensures.bad
 
 pub loop-field-preserved : goal.loop-field-preserved

@@ -1,4 +1,4 @@
-use Rattle.std.proofs.Common.{◌≡◌, sym, ap, ◌∙◌, subst, string_bytes}
+use Rattle.std.proofs.Common.{◌≡◌, [], sym, ap, ◌∙◌, subst, string_bytes}
 use Rattle.std.specs.Prelude.{encode_utf8}
 use Rattle.std.proofs.lemmas.Result.{on_ok_weaker}
 use Rattle.cst_core.specs.Green.{IsTooLong, leaf_tree}
@@ -22,4 +22,4 @@ returns-clause-ok c =
     let r = reading c.args.self.now in
     let new = open_trees c.put.new.self.nodes.items in
     let token : leaf_tree c.in_ok-token.token ≡ Token c.args.kind.0 (string_bytes c.args.self.now.word) = ap leaf_tree c.in_ok-token.ensures.ok ∙ ap (Token c.args.kind.0) c.deref.ensures in
-    on_ok_weaker c.put.result (λ put. subst (λ w. Reads r (encode_utf8 34) (record r { nodes = new; state = Between; word = w })) (sym c.clear.ensures.bytes) (ends-token r c.requires.reading c.args.kind c.requires.state new (subst (λ u. HasPut u r.nodes new) token put))) c.put.ensures.ok
+    on_ok_weaker c.put.result (λ put. subst (λ w. Reads r (encode_utf8 34) (record r { limit = c.put.new.self.limit; nodes = new; state = Between; word = w })) (sym c.clear.ensures.bytes) (subst (λ l. Reads r (encode_utf8 34) (record r { limit = l; nodes = new; state = Between; word = [] })) (sym c.put.ensures.limit) (ends-token r c.requires.reading c.args.kind c.requires.state new (subst (λ u. HasPut u r.nodes new) token put)))) c.put.ensures.ok

@@ -43,14 +43,14 @@ returns-in_err-begin-clause-err c =
     let r = reading c.args.self.now in
     let at = c.args.self.now.at in
     let bytes = encode_utf8 c.args.c in
-    let Full : Type 0 = IsFull (reading c.take_kind.new.self).nodes in
-    let deep = λ (full : Full). node-deep r c.requires.reading c.requires.state (subst (λ x. IsFull x.nodes) c.in_ok-kind.ensures.taken full) in
+    let Full : Type 0 = let taken = reading c.take_kind.new.self in IsFull taken.limit taken.nodes in
+    let deep = λ (full : Full). node-deep r c.requires.reading c.requires.state (subst (λ x. IsFull x.limit x.nodes) c.in_ok-kind.ensures.taken full) in
     passed-on c.from_residual-in_err-begin.result c.in_err-begin.field-0.0 (IsStuck r at bytes) c.from_residual-in_err-begin.ensures.1 (deep-by r at c.word_at-at.result bytes c.in_err-begin.field-0.0 r.word Full (unread-in r NodeKind c.requires.state) c.word_at-at.ensures c.in_err-begin.ensures.err deep)
 
 pub between-requires-clause-reading : goal.between-requires-clause-reading
 between-requires-clause-reading c =
     let r = reading c.args.self.now in
-    let new = begun r (reading c.take_kind.new.self) (open_trees c.begin.new.self.nodes.items) c.in_ok-kind.kind.0 c.in_ok-kind.ensures.taken c.in_ok-begin.ensures.ok in
+    let new = begun r (reading c.take_kind.new.self) c.begin.new.self.limit (open_trees c.begin.new.self.nodes.items) c.in_ok-kind.kind.0 c.in_ok-kind.ensures.taken c.begin.ensures.limit c.in_ok-begin.ensures.ok in
     subst IsReading (sym new) (node-reading r c.requires.reading c.requires.state c.in_ok-kind.kind.0)
 
 pub returns-clause-ok : goal.returns-clause-ok
@@ -58,7 +58,7 @@ returns-clause-ok c =
     let r = reading c.args.self.now in
     let kind = c.in_ok-kind.kind.0 in
     let no_name : is_name_byte c.args.c ≡ false = sym c.is_name_character.ensures ∙ c.if-is_name_character.false in
-    let new = begun r (reading c.take_kind.new.self) (open_trees c.begin.new.self.nodes.items) kind c.in_ok-kind.ensures.taken c.in_ok-begin.ensures.ok in
+    let new = begun r (reading c.take_kind.new.self) c.begin.new.self.limit (open_trees c.begin.new.self.nodes.items) kind c.in_ok-kind.ensures.taken c.begin.ensures.limit c.in_ok-begin.ensures.ok in
     on_ok_weaker c.between.result (λ reads. node-named r c.requires.reading c.requires.state c.args.c kind (reading c.between.new.self) no_name c.in_ok-kind.ensures.named (subst (λ x. Reads x (encode_utf8 c.args.c) (reading c.between.new.self)) new reads)) c.between.ensures.ok
 
 pub returns-clause-err : goal.returns-clause-err
@@ -66,5 +66,5 @@ returns-clause-err c =
     let r = reading c.args.self.now in
     let kind = c.in_ok-kind.kind.0 in
     let no_name : is_name_byte c.args.c ≡ false = sym c.is_name_character.ensures ∙ c.if-is_name_character.false in
-    let new = begun r (reading c.take_kind.new.self) (open_trees c.begin.new.self.nodes.items) kind c.in_ok-kind.ensures.taken c.in_ok-begin.ensures.ok in
+    let new = begun r (reading c.take_kind.new.self) c.begin.new.self.limit (open_trees c.begin.new.self.nodes.items) kind c.in_ok-kind.ensures.taken c.begin.ensures.limit c.in_ok-begin.ensures.ok in
     IfErr-weaker c.between.result _ _ (λ e stuck. node-stuck r c.requires.reading c.requires.state c.args.self.now.at c.args.c kind e no_name c.in_ok-kind.ensures.named (subst (λ y. IsMisplaced (with_node r kind) y (encode_utf8 c.args.c) e) c.in_ok-kind.ensures.stays (subst (λ x. IsMisplaced x c.take_kind.new.self.at (encode_utf8 c.args.c) e) new stuck))) c.between.ensures.err

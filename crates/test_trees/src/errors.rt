@@ -1,0 +1,59 @@
+//! What errors of trees as text and of text edits print, and the sentences that say what to do.
+
+use crate::no_answer::NoAnswer;
+use crate::step::Step;
+use cst_core::{SyntaxKind, TreeError};
+use text_edit::{ApplyError, ComposeError, OrderError};
+use tree_text::{Expected, ExpressionError, NameError, WriteError};
+
+/// Errors of one type.
+#[macro_export]
+macro_rules! errors_of {
+    ($type:ident: $($case:ident $(($held:expr))? $({ $($field:ident: $value:expr),* })?),*) => {
+        &[$($type::$case $(($held))? $({ $($field: $value),* })?),*]
+    };
+}
+
+const EXPRESSION: &[ExpressionError] = errors_of! { ExpressionError:
+    Malformed { at: 12, expected: Expected::KindName }, UnknownKind { at: 1 }, TooDeep { at: 201 },
+    Tree(TreeError::NoTreeNumber), Memory
+};
+
+const WRITE: &[WriteError] = errors_of! { WriteError: NoName(SyntaxKind(65)), Memory };
+
+const NAME: &[NameError] = errors_of! { NameError: Misspelled, Named, Taken, Memory };
+
+const ORDER: &[OrderError] = errors_of! { OrderError:
+    StartAfterEnd { index: 1 }, PastEnd { index: 2 }, OutOfOrder { index: 3 }, Overlapping { index: 4 }
+};
+
+const APPLY: &[ApplyError] =
+    errors_of! { ApplyError: PastEnd { index: 1 }, InsideCharacter { index: 2 }, TooLong, Memory };
+
+const COMPOSE: &[ComposeError] =
+    errors_of! { ComposeError: InsideCharacter { index: 1 }, TooLong { index: 2 }, Memory };
+
+/// What errors of one type print, and their sentences, one after another.
+#[macro_export]
+macro_rules! say_errors {
+    ($step:ident, $errors:expr) => {
+        for error in $errors {
+            $step.between(" | ");
+            $crate::say!($step, "{error}: {}", error.help());
+        }
+    };
+}
+
+/// Of the errors of this type.
+pub fn print(name: &str, step: &mut Step) {
+    match name {
+        "Expression" => say_errors!(step, EXPRESSION),
+        "Write" => say_errors!(step, WRITE),
+        "Name" => say_errors!(step, NAME),
+        "Order" => say_errors!(step, ORDER),
+        "Apply" => say_errors!(step, APPLY),
+        "Compose" => say_errors!(step, COMPOSE),
+        "NoAnswer" => step.put(NoAnswer::from(ExpressionError::Memory).why()),
+        _ => step.stop(NoAnswer::Arguments),
+    }
+}
