@@ -6,6 +6,7 @@ from typing import Dict, Iterable, Iterator, List, Optional, Set, Tuple
 from ._edit import Edit, carry_out
 from ._errors import SynedError
 from ._kind import Kind, kind_of, written
+from ._library import Dialect
 from ._tree import Node, Tree, children_of, expression, kinds_of
 
 _WORD = re.compile("[A-Za-z][A-Za-z0-9_]{0,31}")
@@ -223,7 +224,8 @@ class Position:
 
 
 class Script:
-    """A script, with a method for each word that begins a line. It names its trees itself.
+    """A script of the wide dialect, with a method for each word that begins a line. It names its trees itself, and in its
+    first line the kinds that `Kind` lacks.
 
     A line isn't carried out when it is recorded: `finish` carries out all, and raises what docs/SCRIPTS.md calls a
     refusal or a bad line. It leaves the script as it is, which can go on, and be finished again. `str(script)` is the
@@ -237,10 +239,10 @@ class Script:
     >>> root = script.edit(script.tree(node(Kind.ARG_LIST, one, token(Kind.COMMA, ","), one)))
     >>> new = script.tree(node(Kind.SOURCE_FILE, token(Kind.UNDERSCORE, "_")))
     >>> script.replace(root[0], new[0])
-    4
+    5
     >>> script.finish()
     Edit(text='_,1', changed=((0,),), notes={})
-    >>> print(script, end="")
+    >>> print(str(script).strip())
     tree T0 (ARG_LIST (LITERAL INT_NUMBER"1") COMMA"," (LITERAL INT_NUMBER"1"))
     edit R T0
     tree T1 (SOURCE_FILE UNDERSCORE"_")
@@ -288,7 +290,7 @@ class Script:
         >>> first, both = script.replace(root[0], root[1]), script.range(root[0], root[1])
         >>> error = script.check()
         >>> error.refusal, error.lines
-        (<Refusal.INTERSECTING: 'Intersecting'>, (3, 4))
+        (<Refusal.INTERSECTING: 'Intersecting'>, (4, 5))
         >>> script.take_back(both)
         >>> script.finish().text
         'bb'
@@ -304,7 +306,7 @@ class Script:
         >>> from syned import Kind, Script, node
         >>> script = Script()
         >>> root = script.tree(node(Kind.SOURCE_FILE))
-        >>> print(script, end="")
+        >>> print(str(script).strip())
         tree T0 (SOURCE_FILE)
         """
         if not isinstance(tree, Node):
@@ -339,11 +341,11 @@ class Script:
         >>> block = script.tree(node(Kind.BLOCK_EXPR, token(Kind.L_CURLY, "{"), name, token(Kind.R_CURLY, "}")))
         >>> new = script.tree(node(Kind.NAME, token(Kind.IDENT, "total")))
         >>> script.map(block, root[0], block[1])
-        5
-        >>> script.replace(root[0][0], new[0])
         6
-        >>> script.replace(root[0], block)
+        >>> script.replace(root[0][0], new[0])
         7
+        >>> script.replace(root[0], block)
+        8
         >>> script.finish().text
         '{total}'
         """
@@ -357,7 +359,7 @@ class Script:
         >>> root = script.edit(script.tree(node(Kind.TUPLE_EXPR, token(Kind.IDENT, "a"))))
         >>> new = script.tree(node(Kind.TUPLE_EXPR, token(Kind.COMMA, ","), token(Kind.IDENT, "b")))
         >>> script.insert(Position.after(root[0]), new[0], new[1])
-        4
+        5
         >>> script.finish().text
         'a,b'
         """
@@ -370,7 +372,7 @@ class Script:
         >>> script = Script()
         >>> root = script.edit(script.tree(node(Kind.NAME, token(Kind.IDENT, "a"), token(Kind.IDENT, "b"))))
         >>> script.delete(root[0])
-        3
+        4
         >>> script.finish().text
         'b'
         """
@@ -383,7 +385,7 @@ class Script:
         >>> script = Script()
         >>> root = script.edit(script.tree(node(Kind.NAME, token(Kind.IDENT, "a"), token(Kind.IDENT, "b"))))
         >>> script.replace(root[0], root[1], root[0])
-        3
+        4
         >>> script.finish().text
         'bab'
         """
@@ -396,7 +398,7 @@ class Script:
         >>> script = Script()
         >>> root = script.edit(script.tree(node(Kind.NAME, *(token(Kind.IDENT, text) for text in "abc"))))
         >>> script.range(root[0], root[1])
-        3
+        4
         >>> script.finish().text
         'c'
         """
@@ -410,7 +412,7 @@ class Script:
         >>> items = token(Kind.IDENT, "a"), token(Kind.COMMA, ","), token(Kind.WHITESPACE, " "), token(Kind.IDENT, "b")
         >>> root = script.edit(script.tree(node(Kind.TUPLE_EXPR, *items)))
         >>> script.remove(root[3], Kind.COMMA)
-        3
+        4
         >>> script.finish().text
         'a'
         """
@@ -426,9 +428,9 @@ class Script:
         >>> script = Script()
         >>> root = script.edit(script.tree(node(Kind.NAME, token(Kind.IDENT, "a"), token(Kind.IDENT, "b"))))
         >>> script.note("last", root[1])
-        3
-        >>> script.delete(root[0])
         4
+        >>> script.delete(root[0])
+        5
         >>> script.finish().notes
         {'last': ((0,),)}
         """
@@ -443,11 +445,11 @@ class Script:
         >>> script = Script()
         >>> root = script.edit(script.tree(node(Kind.NAME, *(token(Kind.IDENT, text) for text in "abc"))))
         >>> script.delete(root[0])
-        3
-        >>> script.delete(root[2])
         4
-        >>> script.order(1, 0)
+        >>> script.delete(root[2])
         5
+        >>> script.order(1, 0)
+        6
         >>> script.finish().text
         'b'
         """
@@ -462,7 +464,7 @@ class Script:
         >>> print(script.check())
         None
         >>> print(script.check() if script.delete(root) else "")
-        refused DeletesRoot: the root of the edited tree cannot be deleted; ...: line 3
+        refused DeletesRoot: the root of the edited tree cannot be deleted; ...: line 4
         """
         try:
             self.finish()
@@ -480,6 +482,6 @@ class Script:
         >>> script.finish()
         Traceback (most recent call last):
             ...
-        syned._errors.Refused: refused DeletesRoot: the root of the edited tree cannot be deleted; ...: line 3
+        syned._errors.Refused: refused DeletesRoot: the root of the edited tree cannot be deleted; ...: line 4
         """
-        return carry_out(bytes(self))
+        return carry_out(bytes(self), Dialect.WIDE)
