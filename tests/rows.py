@@ -175,7 +175,6 @@ EXCEPT = {
     "SpliceEngine::new": "asks for nothing",
     "EditChain::new": "keeps the allocator, and asks for nothing",
     "SyntaxEdit::registrations": "is what `NextEdit::next_editor` registers",
-    "SyntaxEdit::copies": "is what `EditChain::find` asks of each step",
     "KindNames::new": "keeps the allocator, and asks for nothing",
     "Language::new": "keeps the allocator, and asks for nothing",
     "read_line_tree_with": "is all of `read_line_tree`, with names and a limit",
