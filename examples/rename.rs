@@ -194,7 +194,7 @@ pub fn renamed(source: &str, old: &str, new: &str) -> Result<String, Box<dyn Err
     let tokens = tokens(source);
     let mut tree = Tree::new(Kind::SourceFile);
     for (kind, text) in &tokens {
-        tree.push_token(*kind, *text);
+        tree.push_token(kind.clone(), *text);
     }
     let mut script = Script::new();
     let file = script.tree(&tree)?;

@@ -17,15 +17,16 @@ Edit(text='(2, 1)', changed=((1,), (4,)), notes={})
 """
 from ._edit import Edit, ElementPath, carry_out
 from ._errors import BadScript, Failed, NoLibrary, Refusal, Refused, SynedError
-from ._kind import Kind
-from ._library import Status, explain, library_version, run
+from ._kind import Kind, kind_of, spelled
+from ._library import Dialect, Status, explain, library_version, run
 from ._script import Element, Position, Script
-from ._tree import Node, Token, Tree, node, token
+from ._tree import Node, Token, Tree, node, pieces, token
 
 __version__ = "0.1.0"
 
 __all__ = [
     "BadScript",
+    "Dialect",
     "Edit",
     "Element",
     "ElementPath",
@@ -43,8 +44,11 @@ __all__ = [
     "Tree",
     "carry_out",
     "explain",
+    "kind_of",
     "library_version",
     "node",
+    "pieces",
     "run",
+    "spelled",
     "token",
 ]

@@ -4,7 +4,7 @@ from dataclasses import dataclass
 from typing import Dict, Match, Tuple
 
 from ._errors import BadScript, Failed, Refusal, Refused
-from ._library import Status, explain, run
+from ._library import Dialect, Status, explain, run
 
 # The way to an element of the new tree: its child numbers, from the root. It is empty for the root.
 ElementPath = Tuple[int, ...]
@@ -56,7 +56,7 @@ class Edit:
         )
 
 
-def carry_out(script: bytes) -> Edit:
+def carry_out(script: bytes, dialect: Dialect = Dialect.SYNED) -> Edit:
     """Carries out a script that is written already. `Script.finish` does it with one that it wrote.
 
     Raises `Refused`, `BadScript` or `Failed` if there is no edit.
@@ -64,13 +64,13 @@ def carry_out(script: bytes) -> Edit:
     >>> carry_out(b'tree A (ARG_LIST COMMA"," COMMA",")\\nedit R A\\ndelete R/0\\nfinish\\n')
     Edit(text=',', changed=(), notes={})
     """
-    status, answer = run(script)
+    status, answer = run(script, dialect)
     if status == Status.DONE:
         return Edit.parse(answer.decode())
     if status == Status.FAILED:
         raise Failed("memory ran out")
     fields = answer.decode().split()
-    sentence = explain(script) or ""
+    sentence = explain(script, dialect) or ""
     if status == Status.REFUSED:
         changes = tuple(int(number) for number in fields[2:])
         lines = tuple(int(number) for number in re.findall(r"\bline ([0-9]+)", sentence))

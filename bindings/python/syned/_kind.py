@@ -1,12 +1,15 @@
-"""The kinds that a script can name."""
+"""The kinds of nodes and tokens: names."""
+import re
 from enum import Enum
 
 
-class Kind(Enum):
-    """The kind of a node or of a token. Any kind can be either's.
+class Kind(str, Enum):
+    """The kinds that have a name from the start, which is a text like that of any other kind.
 
-    >>> Kind.COMMA.value
-    'COMMA'
+    Any kind can be a node's or a token's, and a tree may have kinds of its own: `node("CALL_EXPR")`.
+
+    >>> Kind.COMMA == "COMMA"
+    True
     >>> Kind("ARG_LIST") is Kind.ARG_LIST
     True
     >>> len(Kind)
@@ -78,3 +81,39 @@ class Kind(Enum):
     TRAIT = "TRAIT"
     TYPE_ALIAS = "TYPE_ALIAS"
     UNION = "UNION"
+
+
+_NAME = re.compile("[A-Za-z0-9_]+")
+_KNOWN = {kind.value: kind for kind in Kind}
+
+
+def kind_of(name: str) -> str:
+    """The kind of this name: one of `Kind` if it has that name. A ValueError if no kind can have it.
+
+    >>> kind_of("COMMA"), kind_of("call")
+    (<Kind.COMMA: 'COMMA'>, 'call')
+    >>> kind_of("+=")
+    Traceback (most recent call last):
+        ...
+    ValueError: '+=' is no name of a kind: that has letters, digits and underscores, and at least one
+    """
+    if not isinstance(name, str):
+        raise TypeError(f"a kind is a text, not {name!r}")
+    if not _NAME.fullmatch(name):
+        raise ValueError(f"{name!r} is no name of a kind: that has letters, digits and underscores, and at least one")
+    return _KNOWN.get(name, name)
+
+
+def spelled(text: str) -> str:
+    """A name for a kind that others call by any text: the text if it is one, else with `_` and a number in hexadecimal
+    digits for each other character. Different texts may get one name only if they have underscores.
+
+    >>> spelled("call_expression"), spelled("+="), spelled("")
+    ('call_expression', '_2B_3D', '_')
+    """
+    return re.sub("[^A-Za-z0-9_]", lambda found: f"_{ord(found.group()):X}", text) or "_"
+
+
+def written(kind: str) -> str:
+    """The name of a kind as a plain text."""
+    return kind.value if isinstance(kind, Kind) else kind

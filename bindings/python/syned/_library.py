@@ -1,7 +1,7 @@
 """The calls of libsyned, with bytes for pointers."""
 import ctypes
 import os
-from enum import IntEnum
+from enum import Enum, IntEnum
 from functools import lru_cache
 from pathlib import Path
 from typing import Optional, Tuple
@@ -26,6 +26,17 @@ class Status(IntEnum):
     FAILED = 3
 
 
+class Dialect(Enum):
+    """A form of scripts: that of the program `syned`, or the wide one, with kinds of its own, any size and any depth.
+
+    >>> run(b"kinds call\\ntree A (call)\\nedit R A\\nfinish\\n", Dialect.WIDE)
+    (<Status.DONE: 0>, b'text ""\\nchanged\\n')
+    """
+
+    SYNED = "syned"
+    WIDE = "wide"
+
+
 def _folder() -> Path:
     """The folder of the library: that of SYNED_LIB, else the package's own, if it was installed, else `bindings/out`."""
     here = Path(__file__).resolve()
@@ -45,10 +56,12 @@ def _load(path: Path) -> ctypes.CDLL:
         raise NoLibrary(f"{path} can't be loaded ({error}): `bash bindings/build.sh` makes it anew") from error
     # A `bytes` lends its own memory as a c_char_p, which is never null, also if it is empty.
     script_and_room = [ctypes.c_char_p, ctypes.c_size_t, ctypes.c_char_p, ctypes.c_size_t]
-    library.syned_run.argtypes = script_and_room + [ctypes.POINTER(ctypes.c_size_t)]
-    library.syned_run.restype = ctypes.c_uint8
-    library.syned_explain.argtypes = script_and_room
-    library.syned_explain.restype = ctypes.c_size_t
+    for run_one in (library.syned_run, library.syned_run_wide):
+        run_one.argtypes = script_and_room + [ctypes.POINTER(ctypes.c_size_t)]
+        run_one.restype = ctypes.c_uint8
+    for explain_one in (library.syned_explain, library.syned_explain_wide):
+        explain_one.argtypes = script_and_room
+        explain_one.restype = ctypes.c_size_t
     library.syned_version.argtypes = []
     library.syned_version.restype = ctypes.c_char_p
     return library
@@ -74,7 +87,7 @@ def _check(script: bytes) -> None:
         raise TypeError(f"a script is bytes, not {type(script).__name__}")
 
 
-def run(script: bytes) -> Tuple[Status, bytes]:
+def run(script: bytes, dialect: Dialect = Dialect.SYNED) -> Tuple[Status, bytes]:
     """Carries out a script: its status and its answer, as the program `syned` prints them.
 
     Several threads may call at a time.
@@ -89,16 +102,17 @@ def run(script: bytes) -> Tuple[Status, bytes]:
     """
     _check(script)
     library = _library()
+    call = library.syned_run if dialect == Dialect.SYNED else library.syned_run_wide
     length = ctypes.c_size_t(len(script) + SPARE_ROOM)
     while True:
         room_length = length.value
         room = ctypes.create_string_buffer(room_length)
-        status = library.syned_run(script, len(script), room, room_length, ctypes.byref(length))
+        status = call(script, len(script), room, room_length, ctypes.byref(length))
         if length.value <= room_length:
             return Status(status), memoryview(room)[: length.value].tobytes()
 
 
-def explain(script: bytes) -> Optional[str]:
+def explain(script: bytes, dialect: Dialect = Dialect.SYNED) -> Optional[str]:
     """Why a script has no edit: a sentence for people, which may change. None if it has one.
 
     >>> explain(b"tree A (LITERAL)")
@@ -108,10 +122,11 @@ def explain(script: bytes) -> Optional[str]:
     """
     _check(script)
     library = _library()
+    call = library.syned_explain if dialect == Dialect.SYNED else library.syned_explain_wide
     length = SENTENCE_ROOM
     while True:
         room_length = length
         room = ctypes.create_string_buffer(room_length)
-        length = library.syned_explain(script, len(script), room, room_length)
+        length = call(script, len(script), room, room_length)
         if length <= room_length:
             return memoryview(room)[:length].tobytes().decode() or None

@@ -1,12 +1,13 @@
 """Scripts, written line by line."""
 import re
 from dataclasses import dataclass
-from typing import Iterable, Iterator, List, Optional, Set, Tuple
+from typing import Dict, Iterable, Iterator, List, Optional, Set, Tuple
 
 from ._edit import Edit, carry_out
 from ._errors import SynedError
-from ._kind import Kind
-from ._tree import Node, Token, Tree, expression
+from ._kind import Kind, kind_of, written
+from ._library import Dialect
+from ._tree import Node, Tree, children_of, expression, kinds_of
 
 _WORD = re.compile("[A-Za-z][A-Za-z0-9_]{0,31}")
 
@@ -36,7 +37,7 @@ class Element:
     parent: "Optional[Element]" = None
 
     @property
-    def kind(self) -> Kind:
+    def kind(self) -> str:
         """The kind.
 
         >>> from syned import Kind, Script, node
@@ -77,7 +78,7 @@ class Element:
             ...
         IndexError: T0 has no child 1
         """
-        children = () if isinstance(self.tree, Token) else self.tree.children
+        children = children_of(self.tree)
         if not 0 <= number < len(children):
             raise IndexError(f"{self} has no child {number}")
         return Element(self.script, self.name, self.path + (number,), children[number], self)
@@ -96,12 +97,60 @@ class Element:
             element = element.child(number)
         return element
 
+    @property
+    def length(self) -> int:
+        """The length of its text, in bytes of UTF-8.
+
+        >>> from syned import Kind, Script, node, token
+        >>> Script().tree(node(Kind.NAME, token(Kind.IDENT, "é"))).length
+        2
+        """
+        return self.tree.length
+
+    @property
+    def range(self) -> Tuple[int, int]:
+        """Where its text starts and ends in the text of the tree, in bytes.
+
+        >>> from syned import Kind, Script, node, token
+        >>> Script().tree(node(Kind.NAME, token(Kind.IDENT, "é"), token(Kind.IDENT, "b")))[1].range
+        (2, 3)
+        """
+        start = 0
+        element = self
+        while element.parent is not None:
+            before = children_of(element.parent.tree)[: element.path[-1]]
+            start += sum(tree.length for tree in before)
+            element = element.parent
+        return start, start + self.length
+
+    def covering(self, start: int, end: int) -> "Optional[Element]":
+        """The last element in document order, of this one and all below it, whose text contains these bytes of the text of
+        the tree; where there are such bytes, it is the deepest. None if they are not within this one.
+
+        >>> from syned import Kind, Script, node, token
+        >>> root = Script().tree(node(Kind.ATTR, node(Kind.NAME, token(Kind.IDENT, "a")), token(Kind.IDENT, "b")))
+        >>> root.covering(0, 1), root.covering(0, 2), root.covering(1, 3)
+        (<Element T0/0/0 IDENT>, <Element T0 ATTR>, None)
+        """
+        at, stop = self.range
+        if not at <= start <= end <= stop:
+            return None
+        element = self
+        while True:
+            found = None
+            for number, tree in enumerate(children_of(element.tree)):
+                if at <= start and end <= at + tree.length:
+                    found = number, at
+                at += tree.length
+            if found is None:
+                return element
+            element, at = element.child(found[0]), found[1]
+
     def __getitem__(self, number: int) -> "Element":
         return self.child(number)
 
     def __iter__(self) -> "Iterator[Element]":
-        count = 0 if isinstance(self.tree, Token) else len(self.tree.children)
-        return (self.child(number) for number in range(count))
+        return (self.child(number) for number in range(len(children_of(self.tree))))
 
     def __eq__(self, other: object) -> bool:
         if not isinstance(other, Element):
@@ -115,7 +164,7 @@ class Element:
         return "/".join((self.name, *map(str, self.path)))
 
     def __repr__(self) -> str:
-        return f"<Element {self} {self.kind.value}>"
+        return f"<Element {self} {written(self.kind)}>"
 
 
 @dataclass(frozen=True)
@@ -175,7 +224,8 @@ class Position:
 
 
 class Script:
-    """A script, with a method for each word that begins a line. It names its trees itself.
+    """A script of the wide dialect, with a method for each word that begins a line. It names its trees itself, and in its
+    first line the kinds that `Kind` lacks.
 
     A line isn't carried out when it is recorded: `finish` carries out all, and raises what docs/SCRIPTS.md calls a
     refusal or a bad line. It leaves the script as it is, which can go on, and be finished again. `str(script)` is the
@@ -189,10 +239,10 @@ class Script:
     >>> root = script.edit(script.tree(node(Kind.ARG_LIST, one, token(Kind.COMMA, ","), one)))
     >>> new = script.tree(node(Kind.SOURCE_FILE, token(Kind.UNDERSCORE, "_")))
     >>> script.replace(root[0], new[0])
-    4
+    5
     >>> script.finish()
     Edit(text='_,1', changed=((0,),), notes={})
-    >>> print(script, end="")
+    >>> print(str(script).strip())
     tree T0 (ARG_LIST (LITERAL INT_NUMBER"1") COMMA"," (LITERAL INT_NUMBER"1"))
     edit R T0
     tree T1 (SOURCE_FILE UNDERSCORE"_")
@@ -200,7 +250,9 @@ class Script:
     """
 
     def __init__(self) -> None:
-        self._lines: List[str] = []
+        # The first line gives names to the kinds that have none from the start, and is empty if there are none.
+        self._lines: List[str] = [""]
+        self._kinds: Dict[str, None] = {}
         # The numbers of those that can be taken back.
         self._recorded: Set[int] = set()
         self._trees = 0
@@ -210,6 +262,11 @@ class Script:
 
     def __bytes__(self) -> bytes:
         return f"{self}finish\n".encode()
+
+    def _name(self, kinds: Iterable[str]) -> None:
+        """Has the first line name these kinds, where it has to."""
+        self._kinds.update((kind, None) for kind in kinds if not isinstance(kind, Kind))
+        self._lines[0] = " ".join(("kinds", *self._kinds)) if self._kinds else ""
 
     def _line(self, word: str, *elements: Element) -> str:
         """A line of a word and elements. Those of another script are refused: their names are other trees' here."""
@@ -233,7 +290,7 @@ class Script:
         >>> first, both = script.replace(root[0], root[1]), script.range(root[0], root[1])
         >>> error = script.check()
         >>> error.refusal, error.lines
-        (<Refusal.INTERSECTING: 'Intersecting'>, (3, 4))
+        (<Refusal.INTERSECTING: 'Intersecting'>, (4, 5))
         >>> script.take_back(both)
         >>> script.finish().text
         'bb'
@@ -249,11 +306,12 @@ class Script:
         >>> from syned import Kind, Script, node
         >>> script = Script()
         >>> root = script.tree(node(Kind.SOURCE_FILE))
-        >>> print(script, end="")
+        >>> print(str(script).strip())
         tree T0 (SOURCE_FILE)
         """
         if not isinstance(tree, Node):
             raise TypeError("the root of a tree is a node")
+        self._name(kinds_of(tree))
         name = f"T{self._trees}"
         self._trees += 1
         self._lines.append(f"tree {name} {expression(tree)}")
@@ -283,11 +341,11 @@ class Script:
         >>> block = script.tree(node(Kind.BLOCK_EXPR, token(Kind.L_CURLY, "{"), name, token(Kind.R_CURLY, "}")))
         >>> new = script.tree(node(Kind.NAME, token(Kind.IDENT, "total")))
         >>> script.map(block, root[0], block[1])
-        5
-        >>> script.replace(root[0][0], new[0])
         6
-        >>> script.replace(root[0], block)
+        >>> script.replace(root[0][0], new[0])
         7
+        >>> script.replace(root[0], block)
+        8
         >>> script.finish().text
         '{total}'
         """
@@ -301,7 +359,7 @@ class Script:
         >>> root = script.edit(script.tree(node(Kind.TUPLE_EXPR, token(Kind.IDENT, "a"))))
         >>> new = script.tree(node(Kind.TUPLE_EXPR, token(Kind.COMMA, ","), token(Kind.IDENT, "b")))
         >>> script.insert(Position.after(root[0]), new[0], new[1])
-        4
+        5
         >>> script.finish().text
         'a,b'
         """
@@ -314,7 +372,7 @@ class Script:
         >>> script = Script()
         >>> root = script.edit(script.tree(node(Kind.NAME, token(Kind.IDENT, "a"), token(Kind.IDENT, "b"))))
         >>> script.delete(root[0])
-        3
+        4
         >>> script.finish().text
         'b'
         """
@@ -327,7 +385,7 @@ class Script:
         >>> script = Script()
         >>> root = script.edit(script.tree(node(Kind.NAME, token(Kind.IDENT, "a"), token(Kind.IDENT, "b"))))
         >>> script.replace(root[0], root[1], root[0])
-        3
+        4
         >>> script.finish().text
         'bab'
         """
@@ -340,13 +398,13 @@ class Script:
         >>> script = Script()
         >>> root = script.edit(script.tree(node(Kind.NAME, *(token(Kind.IDENT, text) for text in "abc"))))
         >>> script.range(root[0], root[1])
-        3
+        4
         >>> script.finish().text
         'c'
         """
         return self._record(self._line("range", first, last, *new))
 
-    def remove(self, element: Element, separator: Kind) -> int:
+    def remove(self, element: Element, separator: str) -> int:
         """Removes an element of a list with the separator after it and one whitespace token, else with that before it.
 
         >>> from syned import Kind, Script, node, token
@@ -354,13 +412,14 @@ class Script:
         >>> items = token(Kind.IDENT, "a"), token(Kind.COMMA, ","), token(Kind.WHITESPACE, " "), token(Kind.IDENT, "b")
         >>> root = script.edit(script.tree(node(Kind.TUPLE_EXPR, *items)))
         >>> script.remove(root[3], Kind.COMMA)
-        3
+        4
         >>> script.finish().text
         'a'
         """
-        if not isinstance(separator, Kind):
-            raise TypeError(f"a separator is a Kind, not {separator!r}")
-        return self._record(f"{self._line('remove', element)} {separator.value}")
+        separator = kind_of(separator)
+        line = f"{self._line('remove', element)} {written(separator)}"
+        self._name([separator])
+        return self._record(line)
 
     def note(self, word: str, element: Element) -> int:
         """Asks where an element is in the new tree: `Edit.notes` has it by this word, which may have several elements.
@@ -369,9 +428,9 @@ class Script:
         >>> script = Script()
         >>> root = script.edit(script.tree(node(Kind.NAME, token(Kind.IDENT, "a"), token(Kind.IDENT, "b"))))
         >>> script.note("last", root[1])
-        3
-        >>> script.delete(root[0])
         4
+        >>> script.delete(root[0])
+        5
         >>> script.finish().notes
         {'last': ((0,),)}
         """
@@ -386,11 +445,11 @@ class Script:
         >>> script = Script()
         >>> root = script.edit(script.tree(node(Kind.NAME, *(token(Kind.IDENT, text) for text in "abc"))))
         >>> script.delete(root[0])
-        3
-        >>> script.delete(root[2])
         4
-        >>> script.order(1, 0)
+        >>> script.delete(root[2])
         5
+        >>> script.order(1, 0)
+        6
         >>> script.finish().text
         'b'
         """
@@ -405,7 +464,7 @@ class Script:
         >>> print(script.check())
         None
         >>> print(script.check() if script.delete(root) else "")
-        refused DeletesRoot: the root of the edited tree cannot be deleted; ...: line 3
+        refused DeletesRoot: the root of the edited tree cannot be deleted; ...: line 4
         """
         try:
             self.finish()
@@ -423,6 +482,6 @@ class Script:
         >>> script.finish()
         Traceback (most recent call last):
             ...
-        syned._errors.Refused: refused DeletesRoot: the root of the edited tree cannot be deleted; ...: line 3
+        syned._errors.Refused: refused DeletesRoot: the root of the edited tree cannot be deleted; ...: line 4
         """
-        return carry_out(bytes(self))
+        return carry_out(bytes(self), Dialect.WIDE)

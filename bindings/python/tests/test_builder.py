@@ -63,12 +63,12 @@ class LineWords(unittest.TestCase):
         script.tree(node(Kind.ATTR))
         script.tree(node(Kind.NAME, token(Kind.IDENT, ""), node(Kind.USE, literal("1"), node(Kind.USE))))
         self.assertEqual(
-            str(script), 'tree T0 (ATTR)\ntree T1 (NAME IDENT"" (USE (LITERAL INT_NUMBER"1") (USE)))\n'
+            str(script), '\ntree T0 (ATTR)\ntree T1 (NAME IDENT"" (USE (LITERAL INT_NUMBER"1") (USE)))\n'
         )
 
     def test_edit(self):
         script, root = begun()
-        self.assertEqual(str(script).split("\n")[1], "edit R T0")
+        self.assertEqual(str(script).split("\n")[2], "edit R T0")
         self.assertEqual(script.finish(), Edit("(1, 2)", (), {}))
         self.assertEqual(root.text, "(1, 2)")
 
@@ -84,7 +84,7 @@ class LineWords(unittest.TestCase):
         script.map(block, root[1], block[1])
         script.replace(root[1][0], *words(script, "x"))
         script.replace(root[1], block)
-        self.assertEqual(str(script).split("\n")[3], "map T1 R/1 T1/1")
+        self.assertEqual(str(script).split("\n")[4], "map T1 R/1 T1/1")
         self.assertEqual(script.finish(), Edit("({x}, 2)", ((1,),), {}))
 
     def test_insert(self):
@@ -95,7 +95,7 @@ class LineWords(unittest.TestCase):
         script.insert(Position.before(root[2]), c)
         script.insert(Position.after(root[4]), d, e)
         self.assertEqual(
-            str(script).split("\n")[3:7],
+            str(script).split("\n")[4:8],
             ["insert first R T1/0", "insert last R T1/1", "insert before R/2 T1/2", "insert after R/4 T1/3 T1/4"],
         )
         # a ( 1 c , ' ' 2 d e ) b
@@ -112,7 +112,7 @@ class LineWords(unittest.TestCase):
         script.replace(root[1], a)
         script.replace(root[3])
         script.replace(root[4], b, c)
-        self.assertEqual(str(script).split("\n")[3:6], ["replace R/1 T1/0", "replace R/3", "replace R/4 T1/1 T1/2"])
+        self.assertEqual(str(script).split("\n")[4:7], ["replace R/1 T1/0", "replace R/3", "replace R/4 T1/1 T1/2"])
         self.assertEqual(script.finish(), Edit("(a,bc)", ((1,), (3,), (4,)), {}))
 
     def test_range(self):
@@ -120,7 +120,7 @@ class LineWords(unittest.TestCase):
         a, b = words(script, "a", "b")
         script.range(root[0], root[1], a, b)
         script.range(root[3], root[4])
-        self.assertEqual(str(script).split("\n")[3:5], ["range R/0 R/1 T1/0 T1/1", "range R/3 R/4"])
+        self.assertEqual(str(script).split("\n")[4:6], ["range R/0 R/1 T1/0 T1/1", "range R/3 R/4"])
         self.assertEqual(script.finish(), Edit("ab,)", ((0,), (1,)), {}))
 
     def test_note(self):
@@ -138,7 +138,7 @@ class LineWords(unittest.TestCase):
     def test_remove(self):
         script, root = begun()
         script.remove(root[1], Kind.COMMA)
-        self.assertEqual(str(script).split("\n")[2], "remove R/1 COMMA")
+        self.assertEqual(str(script).split("\n")[3], "remove R/1 COMMA")
         self.assertEqual(script.finish(), Edit("(2)", (), {}))
 
     def test_order(self):
@@ -147,7 +147,7 @@ class LineWords(unittest.TestCase):
         script.insert(Position.first(root), a)
         script.insert(Position.first(root), b)
         script.order(1, 0)
-        self.assertEqual(str(script).split("\n")[5], "order 1 0")
+        self.assertEqual(str(script).split("\n")[6], "order 1 0")
         self.assertEqual(script.finish(), Edit("ab(1, 2)", ((0,), (1,)), {}))
 
     def test_finish(self):
@@ -167,66 +167,66 @@ class Refusals(unittest.TestCase):
         self.assertTrue(str(error).startswith(f"{printed}: "), str(error))
         where = where or "line %d" % bytes(script).count(b"\n")
         self.assertTrue(str(error).endswith(f": {where}"), str(error))
-        self.assertEqual(error.lines, tuple(map(int, re.findall("line (.)", where))))
+        self.assertEqual(error.lines, tuple(map(int, re.findall("line ([0-9]+)", where))))
         self.assertEqual(str(error), error.sentence)
 
     def test_foreign(self):
         script, _ = begun()
         other = script.tree(ARGUMENTS)
         script.delete(other[0])
-        self.assert_refused(script, Refusal.FOREIGN, where="line 4")
+        self.assert_refused(script, Refusal.FOREIGN, where="line 5")
 
     def test_bad_range(self):
         script, root = begun()
         script.range(root[1], root[0])
-        self.assert_refused(script, Refusal.BAD_RANGE, where="line 3")
+        self.assert_refused(script, Refusal.BAD_RANGE, where="line 4")
 
     def test_deletes_root(self):
         script, root = begun()
         script.delete(root)
-        self.assert_refused(script, Refusal.DELETES_ROOT, where="line 3")
+        self.assert_refused(script, Refusal.DELETES_ROOT, where="line 4")
 
     def test_root_replacement(self):
         script, root = begun()
         script.replace(root, *words(script, "x"))
-        self.assert_refused(script, Refusal.ROOT_REPLACEMENT, where="line 4")
+        self.assert_refused(script, Refusal.ROOT_REPLACEMENT, where="line 5")
 
     def test_not_a_child(self):
         script, root = begun()
         block = script.tree(node(Kind.STMT_LIST, BLOCK))
         script.map(block, root[1], block[0][1])
-        self.assert_refused(script, Refusal.NOT_A_CHILD, where="line 4")
+        self.assert_refused(script, Refusal.NOT_A_CHILD, where="line 5")
 
     def test_not_younger(self):
         script, root = begun()
         block = script.tree(BLOCK)
         script.map(root, block[1], root[1])
-        self.assert_refused(script, Refusal.NOT_YOUNGER, where="line 4")
+        self.assert_refused(script, Refusal.NOT_YOUNGER, where="line 5")
 
     def test_other_shape(self):
         script, root = begun()
         block = script.tree(BLOCK)
         script.map(block, root, block[1])
-        self.assert_refused(script, Refusal.OTHER_SHAPE, where="line 4")
+        self.assert_refused(script, Refusal.OTHER_SHAPE, where="line 5")
 
     def test_intersecting(self):
         script, root = begun()
         script.delete(root[3])
         script.replace(root[1], *words(script, "x"))
         script.range(root[1], root[2])
-        self.assert_refused(script, Refusal.INTERSECTING, (1, 2), "changes 1 (line 5) and 2 (line 6)")
+        self.assert_refused(script, Refusal.INTERSECTING, (1, 2), "changes 1 (line 6) and 2 (line 7)")
 
     def test_missing_mapping(self):
         script, root = begun()
         script.replace(root[1], script.tree(BLOCK))
         script.replace(root[1][0], *words(script, "x"))
-        self.assert_refused(script, Refusal.MISSING_MAPPING, (1, 0), "changes 1 (line 6) and 0 (line 4)")
+        self.assert_refused(script, Refusal.MISSING_MAPPING, (1, 0), "changes 1 (line 7) and 0 (line 5)")
 
     def test_not_each_once(self):
         script, root = begun()
         script.delete(root[1])
         script.order(0, 0)
-        self.assert_refused(script, Refusal.NOT_EACH_ONCE, (), "change 0 (line 3) is there twice")
+        self.assert_refused(script, Refusal.NOT_EACH_ONCE, (), "change 0 (line 4) is there twice")
 
     def test_owner_too_early(self):
         script, root = begun()
@@ -279,39 +279,45 @@ class Mistakes(unittest.TestCase):
     def test_lines_in_the_wrong_place(self):
         script = Script()
         script.delete(script.tree(ARGUMENTS)[0])
-        self.assert_bad(script, 2)
+        self.assert_bad(script, 3)
         script, root = begun()
         script.edit(root)
-        self.assert_bad(script, 3)
+        self.assert_bad(script, 4)
         script, _ = begun()
         script.order()
         script.order()
-        self.assert_bad(script, 4)
+        self.assert_bad(script, 5)
 
     def test_elements_in_the_wrong_place(self):
         script, root = begun()
         script.insert(Position.before(root), root[0])
-        self.assert_bad(script, 3)
+        self.assert_bad(script, 4)
         script, root = begun()
         script.insert(Position.first(root[0]), root[0])
-        self.assert_bad(script, 3)
+        self.assert_bad(script, 4)
         script, root = begun()
         script.delete(root[0])
         script.order(-1)
-        self.assert_bad(script, 4)
+        self.assert_bad(script, 5)
 
-    def test_a_tree_that_is_too_deep(self):
-        tree = node(Kind.TUPLE_EXPR)
-        for _ in range(199):
-            tree = node(Kind.TUPLE_EXPR, tree)
-        begun(tree)[0].finish()
-        self.assert_bad(begun(node(Kind.TUPLE_EXPR, tree))[0], 1)
+    def test_no_limit_of_the_other_dialect(self):
+        tree = node(Kind.TUPLE_EXPR, token(Kind.IDENT, "x" * 1048576))
         for _ in range(5000):
             tree = node(Kind.TUPLE_EXPR, tree)
-        self.assert_bad(begun(tree)[0], 1)
+        script, root = begun(tree)
+        script.insert(Position.last(root), root.at([0] * 5001))
+        self.assertEqual(script.finish().text, 2 * "x" * 1048576)
 
-    def test_a_script_that_is_too_long(self):
-        self.assert_bad(begun(node(Kind.SOURCE_FILE, token(Kind.IDENT, "x" * 1048576)))[0], 0)
+    def test_kinds_of_its_own(self):
+        script, root = begun(node("call", token("name", "f"), node("arguments", token(Kind.COMMA, ","), token("name", "a"))))
+        self.assertEqual([it.kind for it in root], ["name", "arguments"])
+        script.replace(root[0], script.tree(node("new", token("word", "g")))[0])
+        script.remove(root[1][1], "comma")
+        self.assertEqual(str(script).split("\n")[0], "kinds call arguments name new word comma")
+        self.assertEqual(script.finish(), Edit("g,", ((0,),), {}))
+        for kind in ("", "+=", "a b", "é"):
+            with self.assertRaises(ValueError):
+                token(kind, "a")
 
     def test_elements_of_another_script(self):
         script, _ = begun()
@@ -335,10 +341,10 @@ class Mistakes(unittest.TestCase):
                 script.note(word, root)
         with self.assertRaises(ValueError):
             token(Kind.IDENT, "\ud800")
-        for make in (lambda: token("IDENT", "a"), lambda: node("NAME"), lambda: node(Kind.NAME, "a")):
+        for make in (lambda: token(1, "a"), lambda: node(None), lambda: node(Kind.NAME, "a")):
             with self.assertRaises(TypeError):
                 make()
-        for make in (lambda: script.remove(root[1], "COMMA"), lambda: script.tree(token(Kind.IDENT, "a"))):
+        for make in (lambda: script.remove(root[1], 1), lambda: script.tree(token(Kind.IDENT, "a"))):
             with self.assertRaises(TypeError):
                 make()
         self.assertEqual(script.finish(), Edit("(1, 2)", (), {}))
@@ -359,12 +365,12 @@ class Mending(unittest.TestCase):
         script, root = begun()
         self.assertIsNone(script.check())
         line = script.delete(root)
-        self.assertEqual(line, 3)
+        self.assertEqual(line, 4)
         error = script.check()
         self.assertEqual((type(error), error.refusal, error.lines), (Refused, Refusal.DELETES_ROOT, (line,)))
         script.take_back(line)
         self.assertIsNone(script.check())
-        self.assertEqual(script.delete(root[0]), 4)
+        self.assertEqual(script.delete(root[0]), 5)
         self.assertEqual(script.finish(), Edit("1, 2)", (), {}))
 
     def test_lines_that_can_be_taken_back(self):
@@ -380,11 +386,11 @@ class Mending(unittest.TestCase):
             script.note("word", root),
             script.order(0, 1),
         ]
-        self.assertEqual(taken, list(range(4, 12)))
+        self.assertEqual(taken, list(range(5, 13)))
         for line in taken:
             script.take_back(line)
         self.assertEqual(script.finish(), Edit("(1, 2)", (), {}))
-        for line in (0, 1, 2, 3, 4, 12, -1):
+        for line in (0, 1, 2, 3, 4, 5, 13, -1):
             with self.assertRaises(ValueError):
                 script.take_back(line)
 
@@ -428,7 +434,7 @@ class Texts(unittest.TestCase):
     def test_escapes(self):
         script = Script()
         script.tree(node(Kind.NAME, token(Kind.COMMENT, 'a\n\r\t"\\\x0b')))
-        self.assertEqual(str(script), 'tree T0 (NAME COMMENT"a\\n\\r\\t\\"\\\\\x0b")\n')
+        self.assertEqual(str(script), '\ntree T0 (NAME COMMENT"a\\n\\r\\t\\"\\\\\x0b")\n')
 
     def test_each_kind_is_one_of_the_sources(self):
         source = (ROOT / "crates/green_tree/src/kind.rt").read_text(encoding="utf-8")

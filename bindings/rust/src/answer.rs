@@ -2,7 +2,7 @@
 #![forbid(unsafe_code)]
 
 use crate::error::{Error, Refusal};
-use crate::run::{explain, run, Status};
+use crate::run::{explain_for, run_for, Dialect, Status};
 use crate::script::Word;
 
 /// The way to an element of the new tree: the number of a child for each step from the root down, counted from 0.
@@ -53,14 +53,27 @@ impl Edit {
 /// # Ok::<(), Error>(())
 /// ```
 pub fn edit(script: &[u8]) -> Result<Edit, Error> {
-    let (status, answer) = run(script);
+    edit_for(Dialect::Syned, script)
+}
+
+/// The same for a script of a dialect.
+///
+/// ```
+/// use syned::{edit_for, Dialect};
+///
+/// let done = edit_for(Dialect::Wide, b"kinds call\ntree A (call COMMA\",\")\nedit R A\nfinish\n")?;
+/// assert_eq!(done.text, ",");
+/// # Ok::<(), syned::Error>(())
+/// ```
+pub fn edit_for(dialect: Dialect, script: &[u8]) -> Result<Edit, Error> {
+    let (status, answer) = run_for(dialect, script);
     let answer = String::from_utf8_lossy(&answer);
     let unknown = || Error::Unknown(answer.clone().into_owned());
     match status {
         Status::Done => read_edit(&answer).ok_or_else(unknown),
         Status::Refused => {
             let refusal = read_refusal(&answer).ok_or_else(unknown)?;
-            let sentence = explain(script).unwrap_or_default();
+            let sentence = explain_for(dialect, script).unwrap_or_default();
             let lines = lines_of(&sentence);
             Err(Error::Refused {
                 refusal,
@@ -70,7 +83,7 @@ pub fn edit(script: &[u8]) -> Result<Edit, Error> {
         }
         Status::BadScript => {
             let line = read_bad_line(&answer).ok_or_else(unknown)?;
-            let sentence = explain(script).unwrap_or_default();
+            let sentence = explain_for(dialect, script).unwrap_or_default();
             Err(Error::BadScript { line, sentence })
         }
         Status::Failed => Err(Error::Failed),

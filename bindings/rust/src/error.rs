@@ -3,8 +3,8 @@
 
 use crate::answer::Path;
 use crate::script::SCRIPT_LIMIT;
-use crate::tree::DEPTH_LIMIT;
 use std::fmt;
+use std::ops::Range;
 
 /// Why there is no edit.
 #[derive(Clone, Debug, PartialEq, Eq)]
@@ -40,8 +40,14 @@ pub enum Error {
     OtherScript,
     /// No call recorded a line of this number, or it was taken back.
     NoLine(usize),
-    /// More than [`DEPTH_LIMIT`] nodes of a tree are within each other.
-    TooDeep,
+    /// A node of another parser's tree, which overlaps one before it, is not in the one above it, or begins or ends within
+    /// a character.
+    Misplaced {
+        /// Its kind, as the parser names it.
+        kind: String,
+        /// Where it says that it is, in bytes.
+        range: Range<usize>,
+    },
     /// With this line the script would have more than [`SCRIPT_LIMIT`] bytes. The line was left out.
     TooLong,
 }
@@ -61,9 +67,10 @@ impl fmt::Display for Error {
             Error::BesideRoot => f.write_str("nothing can stand beside a root"),
             Error::OtherScript => f.write_str("an element or a word is of another script"),
             Error::NoLine(line) => write!(f, "no call recorded line {line}, or it was taken back"),
-            Error::TooDeep => write!(
+            Error::Misplaced { kind, range } => write!(
                 f,
-                "more than {DEPTH_LIMIT} nodes of a tree are within each other"
+                "{kind} at {}..{} overlaps what is before it, or is not in what is above it",
+                range.start, range.end
             ),
             Error::TooLong => write!(f, "the script would have more than {SCRIPT_LIMIT} bytes"),
         }

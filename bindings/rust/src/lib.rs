@@ -37,13 +37,15 @@ mod error;
 #[allow(unsafe_code)]
 mod ffi;
 mod kind;
+mod nodes;
 mod run;
 mod script;
 mod tree;
 
-pub use answer::{edit, Edit, Note, Path};
+pub use answer::{edit, edit_for, Edit, Note, Path};
 pub use error::{Error, Refusal};
-pub use kind::Kind;
-pub use run::{explain, library_version, run, Status};
+pub use kind::{Kind, OwnKind};
+pub use nodes::{pieces, SourceNode};
+pub use run::{explain, explain_for, library_version, run, run_for, Dialect, Status};
 pub use script::{Editing, Element, Ordered, Position, Script, Word, SCRIPT_LIMIT};
-pub use tree::{Tree, DEPTH_LIMIT};
+pub use tree::Tree;

@@ -23,6 +23,15 @@ impl Status {
     }
 }
 
+/// A form of scripts.
+#[derive(Clone, Copy, Debug, PartialEq, Eq)]
+pub enum Dialect {
+    /// That of the program `syned`.
+    Syned,
+    /// That of `syned wide`: with kinds of a script's own, of any size, and as deep as it is.
+    Wide,
+}
+
 /// Carries out a script, and gives the status and the answer as docs/SCRIPTS.md describes them. For
 /// [`Status::Failed`] the answer is empty.
 ///
@@ -34,8 +43,20 @@ impl Status {
 /// assert_eq!(run(b"no script"), (Status::BadScript, b"bad script line 1\n".to_vec()));
 /// ```
 pub fn run(script: &[u8]) -> (Status, Vec<u8>) {
+    run_for(Dialect::Syned, script)
+}
+
+/// The same for a script of a dialect.
+///
+/// ```
+/// use syned::{run_for, Dialect, Status};
+///
+/// let script = b"kinds call\ntree A (call)\nedit R A\nfinish\n";
+/// assert_eq!(run_for(Dialect::Wide, script), (Status::Done, b"text \"\"\nchanged\n".to_vec()));
+/// ```
+pub fn run_for(dialect: Dialect, script: &[u8]) -> (Status, Vec<u8>) {
     // An answer is seldom longer than its script.
-    run_with_guess(script, script.len().saturating_add(64))
+    run_with_guess(dialect, script, script.len().saturating_add(64))
 }
 
 /// Why a script has no edit, in a sentence for people to read; `None` if it has one. The sentences may change.
@@ -45,7 +66,18 @@ pub fn run(script: &[u8]) -> (Status, Vec<u8>) {
 /// assert_eq!(syned::explain(b"").as_deref(), Some("no finish line"));
 /// ```
 pub fn explain(script: &[u8]) -> Option<String> {
-    explain_with_guess(script, 256)
+    explain_for(Dialect::Syned, script)
+}
+
+/// The same of a script of a dialect.
+///
+/// ```
+/// use syned::{explain_for, Dialect};
+///
+/// assert_eq!(explain_for(Dialect::Wide, b"").as_deref(), Some("no finish line"));
+/// ```
+pub fn explain_for(dialect: Dialect, script: &[u8]) -> Option<String> {
+    explain_with_guess(dialect, script, 256)
 }
 
 /// The version of the library that is linked.
@@ -57,13 +89,13 @@ pub fn library_version() -> &'static str {
     std::str::from_utf8(ffi::version()).unwrap_or_default()
 }
 
-fn run_with_guess(script: &[u8], guess: usize) -> (Status, Vec<u8>) {
+fn run_with_guess(dialect: Dialect, script: &[u8], guess: usize) -> (Status, Vec<u8>) {
     let mut needed = guess;
     loop {
         let Some(mut room) = zeros(needed) else {
             return (Status::Failed, Vec::new());
         };
-        let (code, length) = ffi::run(script, &mut room);
+        let (code, length) = ffi::run(dialect, script, &mut room);
         let status = match code {
             0 => Status::Done,
             1 => Status::Refused,
@@ -78,11 +110,11 @@ fn run_with_guess(script: &[u8], guess: usize) -> (Status, Vec<u8>) {
     }
 }
 
-fn explain_with_guess(script: &[u8], guess: usize) -> Option<String> {
+fn explain_with_guess(dialect: Dialect, script: &[u8], guess: usize) -> Option<String> {
     let mut needed = guess;
     loop {
         let mut room = vec![0; needed];
-        let length = ffi::explain(script, &mut room);
+        let length = ffi::explain(dialect, script, &mut room);
         if length == 0 {
             return None;
         }
@@ -112,11 +144,11 @@ mod tests {
     fn any_first_guess_gives_the_whole_answer() {
         for guess in [0, 1, 16, 17, 18, 4096] {
             assert_eq!(
-                run_with_guess(EDIT, guess),
+                run_with_guess(Dialect::Syned, EDIT, guess),
                 (Status::Done, b"text \",\"\nchanged\n".to_vec())
             );
             assert_eq!(
-                run_with_guess(b"", guess),
+                run_with_guess(Dialect::Syned, b"", guess),
                 (Status::BadScript, b"bad script line 1\n".to_vec())
             );
         }
@@ -126,17 +158,17 @@ mod tests {
     fn any_first_guess_gives_the_whole_sentence() {
         for guess in [0, 1, 13, 14, 15, 4096] {
             assert_eq!(
-                explain_with_guess(b"", guess).as_deref(),
+                explain_with_guess(Dialect::Syned, b"", guess).as_deref(),
                 Some("no finish line")
             );
-            assert_eq!(explain_with_guess(EDIT, guess), None);
+            assert_eq!(explain_with_guess(Dialect::Syned, EDIT, guess), None);
         }
     }
 
     #[test]
     fn room_that_is_refused_is_a_failure() {
         assert_eq!(
-            run_with_guess(EDIT, usize::MAX),
+            run_with_guess(Dialect::Syned, EDIT, usize::MAX),
             (Status::Failed, Vec::new())
         );
     }

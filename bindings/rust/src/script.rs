@@ -1,17 +1,20 @@
 //! Scripts that are built from trees and changes, so that nobody puts their text together by hand.
 #![forbid(unsafe_code)]
 
-use crate::answer::{edit, Edit};
+use crate::answer::{edit_for, Edit};
 use crate::error::Error;
-use crate::kind::Kind;
+use crate::kind::{Kind, OwnKind};
+use crate::run::Dialect;
 use crate::tree::{Child, Tree};
+use std::collections::HashSet;
 use std::fmt;
 use std::hash::{Hash, Hasher};
+use std::ops::Range;
 use std::sync::atomic::{AtomicU64, Ordering};
 use std::sync::Arc;
 
 /// How many bytes a script may have.
-pub const SCRIPT_LIMIT: usize = 1_048_576;
+pub const SCRIPT_LIMIT: usize = 4_294_967_295;
 
 /// An element of a tree of a script: a node or a token. Whether there is one is looked at when it is used; of a path that
 /// leads nowhere there is no kind, no text and no child. Two are equal if they stand at one place of one tree.
@@ -68,14 +71,62 @@ impl Element {
 
     /// Its kind.
     pub fn kind(&self) -> Option<Kind> {
-        self.found().map(Child::kind)
+        self.found().map(|found| found.kind().clone())
     }
 
     /// The texts of all tokens below, one after the other, before the edit.
     pub fn text(&self) -> Option<String> {
-        let mut text = String::new();
-        self.found()?.write_text(&mut text);
-        Some(text)
+        self.found().map(Child::text)
+    }
+
+    /// Where its text starts and ends in the text of the tree, in bytes.
+    ///
+    /// ```
+    /// use syned::{Kind, Script, Tree};
+    ///
+    /// let tree = Tree::new(Kind::Name).token(Kind::Ident, "é").token(Kind::Ident, "b");
+    /// let root = Script::new().tree(&tree)?;
+    /// assert_eq!(root.child(1).range(), Some(2..3));
+    /// assert_eq!(root.covering(0..2), Some(root.child(0)));
+    /// assert_eq!((root.covering(1..3), root.covering(1..4)), (Some(root.clone()), None));
+    /// # Ok::<(), syned::Error>(())
+    /// ```
+    pub fn range(&self) -> Option<Range<usize>> {
+        let (mut here, mut start) = (&*self.root, 0);
+        for &number in &self.path {
+            let children = here.children();
+            let next = children.get(number)?;
+            start += children[..number].iter().map(Child::length).sum::<usize>();
+            here = next;
+        }
+        Some(start..start + here.length())
+    }
+
+    /// The last element in document order, of this one and all below it, whose text contains these bytes of the text of
+    /// the tree; where there are such bytes, it is the deepest. `None` if they are not within this one.
+    pub fn covering(&self, range: Range<usize>) -> Option<Element> {
+        let own = self.range()?;
+        if range.start < own.start || range.end < range.start || own.end < range.end {
+            return None;
+        }
+        let (mut found, mut start) = (self.clone(), own.start);
+        while let Some((number, at)) = found.child_over(start, &range) {
+            found.path.push(number);
+            start = at;
+        }
+        Some(found)
+    }
+
+    // The last child whose text contains these bytes, with where it starts; this one starts at the first number.
+    fn child_over(&self, start: usize, range: &Range<usize>) -> Option<(usize, usize)> {
+        let (mut over, mut at) = (None, start);
+        for (number, child) in self.found()?.children().iter().enumerate() {
+            if at <= range.start && range.end <= at + child.length() {
+                over = Some((number, at));
+            }
+            at += child.length();
+        }
+        over
     }
 
     fn found(&self) -> Option<&Child> {
@@ -143,7 +194,8 @@ impl Word {
     }
 }
 
-/// A script before its edit: it has trees only. The example of the [crate](crate) shows one whole.
+/// A script of the wide dialect before its edit: it has trees only, and a first line for the kinds that have no name from
+/// the start. The example of the [crate](crate) shows one whole.
 #[derive(Debug)]
 pub struct Script {
     lines: Lines,
@@ -197,8 +249,9 @@ impl Script {
         Script {
             lines: Lines {
                 script: NEXT.fetch_add(1, Ordering::Relaxed),
-                text: String::new(),
-                ends: Vec::new(),
+                text: "\n".to_string(),
+                ends: vec![1],
+                kinds: Vec::new(),
                 roots: Vec::new(),
             },
         }
@@ -206,7 +259,7 @@ impl Script {
 
     /// Makes a tree, and gives its root.
     ///
-    /// Errors: [`Error::TooDeep`], [`Error::TooLong`].
+    /// Errors: [`Error::TooLong`].
     pub fn tree(&mut self, tree: &Tree) -> Result<Element, Error> {
         self.lines.tree(tree)
     }
@@ -245,8 +298,6 @@ impl Editing {
     }
 
     /// Makes another tree, and gives its root. New elements are taken from such trees.
-    ///
-    /// Errors: also [`Error::TooDeep`].
     pub fn tree(&mut self, tree: &Tree) -> Result<Element, Error> {
         self.lines.tree(tree)
     }
@@ -335,6 +386,7 @@ impl Editing {
         let mut line = Line::new("remove");
         line.element(&self.lines, element)?;
         line.word(separator.name());
+        self.lines.name(std::iter::once(&separator))?;
         self.lines.push(line)
     }
 
@@ -434,19 +486,52 @@ struct Lines {
     text: String,
     // Where each line ends, behind its newline.
     ends: Vec<usize>,
+    // Those that the first line names.
+    kinds: Vec<OwnKind>,
     roots: Vec<Arc<Child>>,
 }
 
 impl Lines {
     fn tree(&mut self, tree: &Tree) -> Result<Element, Error> {
-        if tree.is_too_deep() {
-            return Err(Error::TooDeep);
-        }
         let mut line = Line::new("tree");
         line.word(&name_of(self.roots.len()));
         line.tree(tree);
+        let root = Child::Node(tree.clone());
+        self.name(root.all().map(Child::kind))?;
         self.push(line)?;
-        Ok(self.root(Child::Node(tree.clone())))
+        Ok(self.root(root))
+    }
+
+    // Has the first line name these kinds, where it has to.
+    fn name<'a>(&mut self, kinds: impl Iterator<Item = &'a Kind>) -> Result<(), Error> {
+        let known: HashSet<&OwnKind> = self.kinds.iter().collect();
+        let mut new: Vec<&OwnKind> = Vec::new();
+        let mut seen = HashSet::new();
+        for kind in kinds {
+            if let Kind::Own(kind) = kind {
+                if !known.contains(kind) && seen.insert(kind) {
+                    new.push(kind);
+                }
+            }
+        }
+        if new.is_empty() {
+            return Ok(());
+        }
+        let mut names = String::from(if self.kinds.is_empty() { "kinds" } else { "" });
+        for kind in &new {
+            names.push(' ');
+            names.push_str(kind.name());
+        }
+        if self.text.len() + names.len() > SCRIPT_LIMIT {
+            return Err(Error::TooLong);
+        }
+        let new: Vec<OwnKind> = new.into_iter().cloned().collect();
+        self.kinds.extend(new);
+        self.text.insert_str(self.ends[0] - 1, &names);
+        for end in &mut self.ends {
+            *end += names.len();
+        }
+        Ok(())
     }
 
     // The root of the tree that has been made.
@@ -487,7 +572,8 @@ impl Lines {
         let end = *self.ends.get(before).ok_or(Error::NoLine(number))? - 1;
         let start = before.checked_sub(1).map_or(0, |line| self.ends[line]);
         let line = &self.text[start..end];
-        if line.is_empty() || line.starts_with("tree ") || line.starts_with("edit ") {
+        if line.is_empty() || before == 0 || line.starts_with("tree ") || line.starts_with("edit ")
+        {
             return Err(Error::NoLine(number));
         }
         self.text.replace_range(start..end, "");
@@ -502,7 +588,7 @@ impl Lines {
         if self.text.len() + end.len() > SCRIPT_LIMIT {
             return Err(Error::TooLong);
         }
-        edit(format!("{}{end}", self.text).as_bytes())
+        edit_for(Dialect::Wide, format!("{}{end}", self.text).as_bytes())
     }
 }
 

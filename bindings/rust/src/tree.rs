@@ -2,11 +2,11 @@
 #![forbid(unsafe_code)]
 
 use crate::kind::Kind;
+use std::fmt;
+use std::sync::Arc;
 
-/// How many nodes of a tree may be within each other.
-pub const DEPTH_LIMIT: usize = 200;
-
-/// A node with all that is below it. It begins empty, and its children are added one after the other.
+/// A node with all that is below it. It begins empty, and its children are added one after the other. A clone shares what
+/// is below. A tree may be as deep as memory allows.
 ///
 /// ```
 /// use syned::{Kind, Tree};
@@ -15,17 +15,20 @@ pub const DEPTH_LIMIT: usize = 200;
 /// let tree = Tree::new(Kind::ArgList)
 ///     .node(Tree::new(Kind::Lifetime).token(Kind::LifetimeIdent, "'a"))
 ///     .token(Kind::Comma, ",");
-/// assert_eq!(tree.children(), 2);
+/// assert_eq!((tree.children(), tree.text()), (2, "'a,".to_string()));
 /// ```
-#[derive(Clone, Debug, PartialEq, Eq)]
-pub struct Tree {
+#[derive(Clone)]
+pub struct Tree(Arc<Node>);
+
+#[derive(Clone)]
+struct Node {
     kind: Kind,
     children: Vec<Child>,
-    depth: usize,
+    length: usize,
 }
 
 /// A node or a token of a tree.
-#[derive(Clone, Debug, PartialEq, Eq)]
+#[derive(Clone, Debug)]
 pub(crate) enum Child {
     Node(Tree),
     Token(Kind, String),
@@ -41,23 +44,45 @@ impl Child {
     /// Those of a node; a token has none.
     pub(crate) fn children(&self) -> &[Child] {
         match self {
-            Child::Node(node) => &node.children,
+            Child::Node(node) => &node.0.children,
             Child::Token(..) => &[],
         }
     }
 
-    pub(crate) fn kind(&self) -> Kind {
+    pub(crate) fn kind(&self) -> &Kind {
         match self {
-            Child::Node(node) => node.kind,
-            Child::Token(kind, _) => *kind,
+            Child::Node(node) => &node.0.kind,
+            Child::Token(kind, _) => kind,
         }
     }
 
-    /// Writes the texts of all tokens below, one after the other.
-    pub(crate) fn write_text(&self, out: &mut String) {
+    /// The length of its text in bytes.
+    pub(crate) fn length(&self) -> usize {
         match self {
-            Child::Node(node) => node.children.iter().for_each(|child| child.write_text(out)),
-            Child::Token(_, text) => out.push_str(text),
+            Child::Node(node) => node.0.length,
+            Child::Token(_, text) => text.len(),
+        }
+    }
+
+    /// It and all below it, in document order.
+    pub(crate) fn all(&self) -> impl Iterator<Item = &Child> {
+        let mut rest = vec![self];
+        std::iter::from_fn(move || {
+            let next = rest.pop()?;
+            rest.extend(next.children().iter().rev());
+            Some(next)
+        })
+    }
+
+    /// The texts of all tokens below, one after the other.
+    pub(crate) fn text(&self) -> String {
+        self.all().filter_map(Child::token_text).collect()
+    }
+
+    fn token_text(&self) -> Option<&str> {
+        match self {
+            Child::Node(_) => None,
+            Child::Token(_, text) => Some(text),
         }
     }
 }
@@ -66,11 +91,11 @@ impl Tree {
     /// A node of this kind without children.
     #[must_use]
     pub fn new(kind: Kind) -> Tree {
-        Tree {
+        Tree(Arc::new(Node {
             kind,
             children: Vec::new(),
-            depth: 1,
-        }
+            length: 0,
+        }))
     }
 
     /// The same with a token as another last child. Any text is allowed, also an empty one.
@@ -89,37 +114,47 @@ impl Tree {
 
     /// Adds a token as the last child.
     pub fn push_token(&mut self, kind: Kind, text: impl Into<String>) {
-        self.children.push(Child::Token(kind, text.into()));
+        self.push(Child::Token(kind, text.into()));
     }
 
-    /// Adds a node as the last child. A tree in which more than [`DEPTH_LIMIT`] nodes are within each other is no tree
-    /// of a script: [`Script::tree`](crate::Script::tree) gives [`Error::TooDeep`](crate::Error::TooDeep) for it.
+    /// Adds a node as the last child.
     pub fn push_node(&mut self, node: Tree) {
-        self.depth = self.depth.max(node.depth.saturating_add(1));
-        // A tree that is too deep is refused anyway. It keeps nothing below its limit, so that no walk gets too deep.
-        if node.depth < DEPTH_LIMIT {
-            self.children.push(Child::Node(node));
-        }
+        self.push(Child::Node(node));
+    }
+
+    pub(crate) fn push(&mut self, child: Child) {
+        let node = Arc::make_mut(&mut self.0);
+        node.length += child.length();
+        node.children.push(child);
     }
 
     /// How many children the node has.
     pub fn children(&self) -> usize {
-        self.children.len()
+        self.0.children.len()
     }
 
-    pub(crate) fn is_too_deep(&self) -> bool {
-        self.depth > DEPTH_LIMIT
+    /// The texts of all tokens, one after the other.
+    pub fn text(&self) -> String {
+        Child::Node(self.clone()).text()
     }
 
     /// Writes its tree expression.
     pub(crate) fn write(&self, out: &mut String) {
-        out.push('(');
-        out.push_str(self.kind.name());
-        for child in &self.children {
-            out.push(' ');
-            match child {
-                Child::Node(node) => node.write(out),
-                Child::Token(kind, text) => {
+        let mut rest = vec![self.0.children.iter()];
+        open(&self.0.kind, out);
+        while let Some(children) = rest.last_mut() {
+            match children.next() {
+                None => {
+                    out.push(')');
+                    rest.pop();
+                }
+                Some(Child::Node(node)) => {
+                    out.push(' ');
+                    open(&node.0.kind, out);
+                    rest.push(node.0.children.iter());
+                }
+                Some(Child::Token(kind, text)) => {
+                    out.push(' ');
                     out.push_str(kind.name());
                     out.push('"');
                     write_escaped(text, out);
@@ -127,9 +162,64 @@ impl Tree {
                 }
             }
         }
-        out.push(')');
     }
 }
+
+fn open(kind: &Kind, out: &mut String) {
+    out.push('(');
+    out.push_str(kind.name());
+}
+
+// Without recursion, so that a deep tree is freed on any stack.
+impl Drop for Node {
+    fn drop(&mut self) {
+        let mut rest = std::mem::take(&mut self.children);
+        while let Some(child) = rest.pop() {
+            if let Child::Node(Tree(mut node)) = child {
+                if let Some(node) = Arc::get_mut(&mut node) {
+                    rest.append(&mut node.children);
+                }
+            }
+        }
+    }
+}
+
+/// Its kind and how many children it has: no tree is printed.
+impl fmt::Debug for Tree {
+    fn fmt(&self, f: &mut fmt::Formatter<'_>) -> fmt::Result {
+        write!(f, "Tree({} with {} children)", self.0.kind, self.children())
+    }
+}
+
+/// Whether all kinds, texts and children are the same.
+impl PartialEq for Tree {
+    fn eq(&self, other: &Tree) -> bool {
+        let mut rest = vec![(self, other)];
+        while let Some((one, other)) = rest.pop() {
+            if Arc::ptr_eq(&one.0, &other.0) {
+                continue;
+            }
+            let (ones, others) = (&one.0.children, &other.0.children);
+            if one.0.kind != other.0.kind || ones.len() != others.len() {
+                return false;
+            }
+            for pair in ones.iter().zip(others) {
+                match pair {
+                    (Child::Node(one), Child::Node(other)) => rest.push((one, other)),
+                    (Child::Token(kind, text), Child::Token(other, same)) => {
+                        if kind != other || text != same {
+                            return false;
+                        }
+                    }
+                    _ => return false,
+                }
+            }
+        }
+        true
+    }
+}
+
+impl Eq for Tree {}
 
 fn write_escaped(text: &str, out: &mut String) {
     for c in text.chars() {

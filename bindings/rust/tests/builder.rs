@@ -5,7 +5,6 @@
 use std::fs;
 use std::path::Path;
 use syned::{edit, Edit, Editing, Element, Error, Kind, Position, Refusal, Script, Tree};
-use syned::{DEPTH_LIMIT, SCRIPT_LIMIT};
 
 fn number(text: &str) -> Tree {
     Tree::new(Kind::Literal).token(Kind::IntNumber, text)
@@ -61,7 +60,7 @@ fn assert_refused(edit: Result<Edit, Error>, wanted: Refusal, said: &str) {
 fn tree_escapes_texts() {
     let text = "\n\r\t\"\\é \u{2028}\0'";
     let (editing, _) = edit_of(&Tree::new(Kind::Attr).token(Kind::Comment, text));
-    let wanted = "tree t0 (ATTR COMMENT\"\\n\\r\\t\\\"\\\\é \u{2028}\0'\")\nedit t1 t0\n";
+    let wanted = "\ntree t0 (ATTR COMMENT\"\\n\\r\\t\\\"\\\\é \u{2028}\0'\")\nedit t1 t0\n";
     assert_eq!(editing.text(), wanted);
     assert_edit(editing.finish(), text, &[]);
 }
@@ -271,7 +270,7 @@ fn foreign() {
         editing.finish(),
         Refusal::Foreign,
         "refused Foreign: the position or the target is not in the edited tree; begin at the root that is edited: \
-         line 4",
+         line 5",
     );
 }
 
@@ -283,7 +282,7 @@ fn bad_range() {
         editing.finish(),
         Refusal::BadRange,
         "refused BadRange: the ends of the range are not siblings in this order; give siblings, and not the last one first: \
-         line 3",
+         line 4",
     );
 }
 
@@ -295,7 +294,7 @@ fn deletes_root() {
         editing.finish(),
         Refusal::DeletesRoot,
         "refused DeletesRoot: the root of the edited tree cannot be deleted; delete what is in it, or replace it by a node: \
-         line 3",
+         line 4",
     );
 }
 
@@ -308,7 +307,7 @@ fn root_replacement() {
         editing.finish(),
         Refusal::RootReplacement,
         "refused RootReplacement: the root of the edited tree can be replaced by one node only; give one node: \
-         line 4",
+         line 5",
     );
 }
 
@@ -331,7 +330,7 @@ fn not_a_child() {
         editing.finish(),
         Refusal::NotAChild,
         "refused NotAChild: the copy is not a child of the given parent; give the node that the copy is a child of: \
-         line 4",
+         line 5",
     );
 }
 
@@ -343,7 +342,7 @@ fn not_younger() {
         editing.finish(),
         Refusal::NotYounger,
         "refused NotYounger: the tree of the copy is not newer than that of the node; make the tree of the copy after that of the node: \
-         line 4",
+         line 5",
     );
 }
 
@@ -355,7 +354,7 @@ fn other_shape() {
         editing.finish(),
         Refusal::OtherShape,
         "refused OtherShape: the copy differs from the node in more than the texts of its tokens; map nodes of one shape: \
-         line 4",
+         line 5",
     );
 }
 
@@ -373,7 +372,7 @@ fn intersecting() {
             second: 2,
         },
         "refused Intersecting 0 2: two changes replace or delete the same element; keep one of them: \
-         changes 0 (line 4) and 2 (line 6)",
+         changes 0 (line 5) and 2 (line 7)",
     );
 }
 
@@ -387,7 +386,7 @@ fn missing_mapping() {
     let said = error.to_string();
     assert!(said.starts_with("refused MissingMapping 1 0: "), "{said}");
     assert!(
-        said.ends_with(": changes 1 (line 5) and 0 (line 4)"),
+        said.ends_with(": changes 1 (line 6) and 0 (line 5)"),
         "{said}"
     );
     let Error::Refused { refusal, lines, .. } = error else {
@@ -400,7 +399,7 @@ fn missing_mapping() {
             owner: 0
         }
     );
-    assert_eq!(lines, [5, 4]);
+    assert_eq!(lines, [6, 5]);
 }
 
 #[track_caller]
@@ -485,8 +484,8 @@ fn a_refused_script_is_mended() {
     editing.take_back(line).unwrap();
     assert_eq!(editing.check(), Ok(()));
     let next = editing.delete(&root.child(1)).unwrap();
-    assert_eq!((line, next), (3, 4));
-    for line in [0, 1, 2, 3, 5, usize::MAX] {
+    assert_eq!((line, next), (4, 5));
+    for line in [0, 1, 2, 3, 4, 6, usize::MAX] {
         assert_eq!(editing.take_back(line), Err(Error::NoLine(line)));
     }
     assert_edit(editing.finish(), "(, 2)", &[]);
@@ -611,40 +610,39 @@ fn an_element_or_a_word_of_another_script() {
 }
 
 #[test]
-fn a_tree_that_is_too_deep() {
-    let nested = |depth: usize| {
-        (1..depth).fold(Tree::new(Kind::Attr).token(Kind::Ident, "x"), |tree, _| {
-            Tree::new(Kind::Attr).node(tree)
-        })
-    };
-    assert_edit(edit_of(&nested(DEPTH_LIMIT)).0.finish(), "x", &[]);
-    let mut script = Script::new();
-    for depth in [DEPTH_LIMIT + 1, 1_000_000] {
-        assert_eq!(script.tree(&nested(depth)), Err(Error::TooDeep));
-    }
-    assert_eq!(script.text(), "");
-    let error = list_edit().0.tree(&nested(DEPTH_LIMIT + 1)).unwrap_err();
-    assert_eq!(
-        error.to_string(),
-        "more than 200 nodes of a tree are within each other"
+fn trees_of_any_depth_and_size() {
+    let long = "x".repeat(2_000_000);
+    let tree = (1..100_000).fold(
+        Tree::new(Kind::Attr).token(Kind::Ident, &long),
+        |tree, _| Tree::new(Kind::Attr).node(tree),
     );
+    assert_eq!(tree, tree.clone());
+    let (editing, root) = edit_of(&tree);
+    assert_eq!(root.text().as_deref(), Some(&*long));
+    assert_eq!(editing.finish().unwrap().text, long);
 }
 
 #[test]
-fn a_script_that_is_too_long() {
-    let frame = "tree t0 (ATTR IDENT\"\")\nedit t1 t0\nfinish\n".len();
-    let tree = |length: usize| Tree::new(Kind::Attr).token(Kind::Ident, "x".repeat(length));
-    let longest = SCRIPT_LIMIT - frame;
-    assert_eq!(
-        edit_of(&tree(longest)).0.finish().unwrap().text.len(),
-        longest
-    );
-    assert_eq!(edit_of(&tree(longest + 1)).0.finish(), Err(Error::TooLong));
-    let mut script = Script::new();
-    assert_eq!(script.tree(&tree(SCRIPT_LIMIT)), Err(Error::TooLong));
-    // The line was left out.
-    let file = script.tree(&list()).unwrap();
-    assert_edit(script.edit(&file).unwrap().finish(), "(1, 2)", &[]);
+fn kinds_of_a_tree_s_own() {
+    let kind = |name: &str| Kind::new(name).unwrap();
+    let arguments = Tree::new(kind("arguments"))
+        .token(Kind::Comma, ",")
+        .token(kind("name"), "a");
+    let call = Tree::new(kind("call"))
+        .token(kind("name"), "f")
+        .node(arguments);
+    let (mut editing, root) = edit_of(&call);
+    assert_eq!(root.child(0).kind(), Some(kind("name")));
+    let new = Tree::new(kind("new")).token(kind("word"), "g");
+    let new = editing.tree(&new).unwrap();
+    editing.replace(&root.child(0), &new.child(0)).unwrap();
+    editing.remove(&root.at(&[1, 1]), kind("comma")).unwrap();
+    let first = editing.text().lines().next().unwrap();
+    assert_eq!(first, "kinds call name arguments new word comma");
+    assert_edit(editing.finish(), "g,", &[&[0]]);
+    for name in ["", "+=", "a b", "é"] {
+        assert_eq!(Kind::new(name), None);
+    }
 }
 
 // What is written elsewhere
@@ -657,7 +655,7 @@ fn bad_scripts_say_where() {
     };
     assert_eq!(line, 1);
     assert!(sentence.starts_with(said), "{sentence}");
-    for script in [&b"\xff"[..], &vec![b'\n'; SCRIPT_LIMIT + 1]] {
+    for script in [&b"\xff"[..], &vec![b'\n'; 1_048_577]] {
         assert!(matches!(
             edit(script),
             Err(Error::BadScript { line: 0, .. })
@@ -671,18 +669,20 @@ fn kinds_are_those_of_the_docs() {
     let docs = fs::read_to_string(docs).unwrap();
     let kinds = &docs[docs.find("WHITESPACE COMMENT").unwrap()..];
     let kinds = kinds[..kinds.find("```").unwrap()].split_whitespace();
-    assert_eq!(kinds.collect::<Vec<_>>(), Kind::ALL.map(Kind::name));
+    let all = Kind::ALL.iter().map(Kind::name).collect::<Vec<_>>();
+    assert_eq!(kinds.collect::<Vec<_>>(), all);
 }
 
 #[test]
 fn every_kind_is_a_nodes_and_a_tokens() {
     let mut tree = Tree::new(Kind::SourceFile);
     for kind in Kind::ALL {
-        tree.push_node(Tree::new(kind).token(kind, kind.to_string()));
+        let name = kind.to_string();
+        tree.push_node(Tree::new(kind.clone()).token(kind, name));
     }
     assert_edit(
         edit_of(&tree).0.finish(),
-        &Kind::ALL.map(Kind::name).concat(),
+        &Kind::ALL.iter().map(Kind::name).collect::<String>(),
         &[],
     );
 }

@@ -2,7 +2,7 @@
 //! out would have been.
 #![forbid(unsafe_code)]
 
-use syned::{edit, Editing, Element, Error, Kind, Position, Script, Tree};
+use syned::{edit_for, Dialect, Editing, Element, Error, Kind, Position, Script, Tree};
 
 struct Chance(u64);
 
@@ -133,7 +133,7 @@ fn no_script_is_bad_and_what_is_left_out_would_be() {
                     assert_eq!(editing.text(), before);
                     // Unless a line before it is refused.
                     let number = before.lines().count() + 1;
-                    match edit(with_line(&before, &line).as_bytes()) {
+                    match edit_for(Dialect::Wide, with_line(&before, &line).as_bytes()) {
                         Err(Error::BadScript { line, .. }) => assert_eq!(line, number, "{before}"),
                         Err(Error::Refused { .. }) => {}
                         answer => panic!("{before}{line}: {error}, {answer:?}"),
