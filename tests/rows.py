@@ -174,6 +174,7 @@ EXCEPT = {
     "OnePassEngine::starting_at": "asks for nothing",
     "SpliceEngine::new": "asks for nothing",
     "EditChain::new": "keeps the allocator, and asks for nothing",
+    "Element::syntax_element": "copies an element; its steps tell a refusal as want of memory, and not by its name",
     "SyntaxEdit::registrations": "is what `NextEdit::next_editor` registers",
     "KindNames::new": "keeps the allocator, and asks for nothing",
     "Language::new": "keeps the allocator, and asks for nothing",
