@@ -2,8 +2,8 @@
 """Scripts with known answers, and whether the program `syned` gives these, each with the exit status that goes with it.
 
     known.py            runs them all
-    known.py PART..     those of these parts: tables examples corpus lines explained ends_of_lines beginnings limits wide wide_limits ends
-    known.py quick      without proofs, if the gate has not built `syned`: those of tables, examples and wide, and every 24th of the corpus
+    known.py PART..     those of these parts: tables examples corpus lines explained ends_of_lines beginnings limits wide spaced wide_limits ends
+    known.py quick      without proofs, if the gate has not built `syned`: those of tables, examples, wide and spaced, and every 24th of the corpus
 
 tests/scripts has
 
@@ -12,7 +12,7 @@ tests/scripts has
     bad_first_lines.txt, bad_ends.txt    lines that are bad as the first one, and after `finish`
     good_lines.txt      lines that change nothing
     explained.txt       scripts with their answers and what is said on the standard error
-    wide.txt            scripts for `syned wide` with their answers, some with what is said; it also has all scripts of the tables
+    wide.txt, spaced.txt  scripts for `syned wide` with their answers, some with what is said; it also has all scripts of the tables
 
 tests/corpus has scripts whose answers another program made from the definitions, each NAME with its answer NAME.stdout, and examples has
 NAME.script. A run has two seconds of processor time. The model in Python is compared with the same answers (tests/models.py)."""
@@ -156,11 +156,20 @@ def limits():
            + "".join("replace R/%d R\n" % slot for slot in slots) + "".join("delete R/%d\n" % slot for slot in slots), bad(24003))
 
 
+def wide_table(table):
+    for name, script, parts in rows(read(TESTS / f"scripts/{table}.txt").decode()):
+        says = parts["says"].rstrip("\n") if "says" in parts else None
+        yield f"{table}: {name}", re.sub(r"\n+", "\n", script), parts["answer"].rstrip("\n") + "\n", says, WIDE
+
+
+def spaced():
+    """Scripts of the wide dialect with whitespace that the editor chooses."""
+    yield from wide_table("spaced")
+
+
 def wide():
     """Scripts of the wide dialect; those of the other one mean the same in it."""
-    for name, script, parts in rows(read(TESTS / "scripts/wide.txt").decode()):
-        says = parts["says"].rstrip("\n") if "says" in parts else None
-        yield "wide: " + name, re.sub(r"\n+", "\n", script), parts["answer"].rstrip("\n") + "\n", says, WIDE
+    yield from wide_table("wide")
     for name, script, answer in tables():
         yield "wide: " + name, script, answer, None, WIDE
 
@@ -176,7 +185,7 @@ def wide_limits():
     yield "wide: eight megabytes that are no line", b"\0" * (8 * LIMIT), bad(1), None, WIDE
 
 
-PARTS = {it.__name__: it for it in (tables, examples, corpus, lines, explained, ends_of_lines, beginnings, limits, wide, wide_limits)}
+PARTS = {it.__name__: it for it in (tables, examples, corpus, lines, explained, ends_of_lines, beginnings, limits, wide, spaced, wide_limits)}
 
 
 class Known(NamedTuple):
@@ -271,7 +280,7 @@ def quick():
     """Runs a share of the scripts without proofs, in parts side by side: one of the wide dialect, and two of the other."""
     if programs.is_built("syned"):
         return all_right([])
-    chosen = [*known("tables", "examples", "wide"), *itertools.islice(known("corpus"), 0, None, SHARE)]
+    chosen = [*known("tables", "examples", "wide", "spaced"), *itertools.islice(known("corpus"), 0, None, SHARE)]
     cases = {case.name.replace("/", " "): case for case in chosen}
     names = sorted(name for name, case in cases.items() if not case.words)
     shares = [names[::2], names[1::2], [name for name, case in cases.items() if case.words]]

@@ -920,9 +920,10 @@ def depth_in(dialect):
     """How many parentheses may be open at once; in the wide dialect as many as a script has bytes."""
     return {SYNED: 200, WIDE: bytes_in(WIDE)}[dialect]
 
-def names_kinds(dialect):
-    """Whether lines may give names to kinds."""
-    return dialect == WIDE
+def _want_wide(state):
+    """A word of the wide dialect alone."""
+    if state.dialect != WIDE:
+        raise Bad
 
 
 # Tree expressions
@@ -1015,12 +1016,12 @@ def _number(field):
 # What scripts mean
 
 class State:
-    """The dialect, the names that kinds were given, the number of the next tree, the roots, the annotation words by their first use, and what is
-    edited."""
+    """The dialect, the names that kinds were given, the number of the next tree, the roots, the annotation words by their first use, what is
+    edited, and what its answer shows besides."""
 
     def __init__(self, dialect):
         self.dialect, self.kinds = dialect, {}
-        self.number, self.roots, self.words, self.editor, self.order = 1, {}, [], None, None
+        self.number, self.roots, self.words, self.editor, self.order, self.details = 1, {}, [], None, None, set()
 
     def with_root(self, field, tree):
         """One more root, in a tree with the next number."""
@@ -1083,7 +1084,8 @@ def IsFree(kinds, name):
 
 def KindsStep(state, names):
     """What a line `kinds` does, which comes before any tree."""
-    if not names_kinds(state.dialect) or state.number != 1:
+    _want_wide(state)
+    if state.number != 1:
         raise Bad
     for name in names:
         if not IsFree(state.kinds, name):
@@ -1097,6 +1099,22 @@ def tree_step(state, line):
     if not tree or _name(parts[1]) in state.roots:
         raise Bad
     state.with_root(parts[1], tree)
+
+def shifted(shift, tree):
+    """A tree a level further in or out: each WHITESPACE token with a newline has four spaces more at its end, or its lines lose as many."""
+    if not is_token(tree):
+        return node(tree.label, [shifted(shift, child) for child in tree.children])
+    first, *rest = tree.bytes.split(b"\n")
+    if tree.label != b"WHITESPACE" or not rest:
+        return tree
+    return _token(tree.label, tree.bytes + b"    " if shift == b"indent" else b"\n".join([first] + [line.removeprefix(b"    ") for line in rest]))
+
+def shift_step(state, shift, rest):
+    """What a line `indent` or `dedent` does."""
+    _want_wide(state)
+    if len(rest) != 2 or _name(rest[0]) in state.roots:
+        raise Bad
+    state.with_root(rest[0], shifted(shift, subtree(node_in(state, rest[1]))))
 
 def edit_step(state, rest):
     """What a line `edit` does: the root is the node's own, or one of a new tree where the node has a parent."""
@@ -1129,6 +1147,12 @@ def order_step(state, rest):
         raise Bad
     state.order = list(map(_number, rest))
 
+def show_step(state, rest):
+    _want_wide(state)
+    if len(rest) != 1 or rest[0] not in (b"edits", b"tree", b"ranges"):
+        raise Bad
+    state.details.add(rest[0])
+
 def record_step(state, call):
     why = refusal(state.editor.root, call)
     if why:
@@ -1144,9 +1168,11 @@ def Steps(state, line):
         return tree_step(state, line)
     if said[0] == b"edit":
         return edit_step(state, said[1:])
+    if said[0] in (b"indent", b"dedent"):
+        return shift_step(state, *said[:1], said[1:])
     if not state.editor:
         raise Bad
-    steps = {b"map": MapStep, b"note": note_step, b"order": order_step}
+    steps = {b"map": MapStep, b"note": note_step, b"order": order_step, b"show": show_step}
     return steps[said[0]](state, said[1:]) if said[0] in steps else record_step(state, call_in(state, said))
 
 def lines_in(script):
@@ -1161,6 +1187,7 @@ class Outcome(NamedTuple):
     plan: Optional[Plan] = None
     words: Tuple = ()
     order: Optional[list] = None
+    details: frozenset = frozenset()
 
 def EndRefuses(plan, order):
     """Why `finish` does not carry the changes out: the plan comes first, then the order, then the new tree."""
@@ -1176,7 +1203,7 @@ def MeansFor(dialect, script):
             elif not is_blank(line):
                 further = next((later for later, text_after in enumerate(lines[number:], number + 1) if not is_blank(text_after)), None)
                 plan = plan_of(state.editor)
-                return Outcome(further) if further else Outcome(None, EndRefuses(plan, state.order), plan, state.words, state.order)
+                return Outcome(further) if further else Outcome(None, EndRefuses(plan, state.order), plan, state.words, state.order, state.details)
         except Bad:
             return Outcome(number)
         except Refused as why:
@@ -1199,10 +1226,20 @@ def IsNoScript(script, dialect=SYNED):
 def paths_text(some_paths):
     return "".join(" " + path_text(path) for path in some_paths)
 
-def edit_text(plan, words):
-    """The printed edit: the new text, escaped, the changed paths, and the notes."""
-    notes = ["note %s%s\n" % (word.decode(), paths_text(found_for(plan, number))) for number, word in enumerate(words, 1)]
-    return b'text "' + escaped(text(new_tree(plan))) + b'"\n' + "".join(["changed%s\n" % paths_text(changed(plan))] + notes).encode()
+def places_text(plan, some_paths, ranges):
+    """Paths after spaces; where ranges are shown, with where the elements begin and end."""
+    new = plain(new_tree(plan)) if ranges else None
+    return "".join(" %s@%d..%d" % (path_text(path), start(new, path), start(new, path) + text_length(at(new, path))) if ranges
+                   else paths_text([path]) for path in some_paths)
+
+def edit_text(plan, words, details=frozenset()):
+    """The printed edit: the new text, escaped, the changed places, the notes, and what is shown besides."""
+    ranges = b"ranges" in details
+    notes = ["note %s%s\n" % (word.decode(), places_text(plan, found_for(plan, number), ranges)) for number, word in enumerate(words, 1)]
+    edits = [b'edit %d %d "%s"\n' % (edit.first, edit.stop, escaped(edit.text)) for edit in text_pieces(plan)] if b"edits" in details else []
+    tree = [b"tree " + tree_text(plain(new_tree(plan))) + b"\n"] if b"tree" in details else []
+    places = "".join(["changed%s\n" % places_text(plan, changed(plan), ranges)] + notes).encode()
+    return b"".join([b'text "', escaped(text(new_tree(plan))), b'"\n', places, *edits, *tree])
 
 def IsAnswerFor(dialect, script):
     """The exit status of a run, and what it prints."""
@@ -1211,7 +1248,7 @@ def IsAnswerFor(dialect, script):
         return 2, b"bad script line %d\n" % outcome.bad_line
     if outcome.refusal:
         return 1, b"refused " + outcome.refusal.encode() + b"\n"
-    return 0, edit_text(outcome.plan, outcome.words)
+    return 0, edit_text(outcome.plan, outcome.words, outcome.details)
 
 # The program
 

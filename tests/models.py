@@ -252,7 +252,7 @@ def compared(model):
     """For each known answer, each plan of such a script and each worked example: its name, and how the model differs, None if it doesn't."""
     for name, script, wanted, unwanted in examples():
         yield "worked examples", name, example_difference(wanted, unwanted, answer_lines(model, name, script))
-    for case in known.known(*(part for part in known.PARTS if part != "wide_limits")):
+    for case in known.known(*(part for part in known.PARTS if part not in ("wide_limits", "spaced"))):
         said = model.IsAnswerFor(*(case.words or [model.SYNED]), case.script)
         right = said == (case.status, case.answer)
         yield "known answers", case.name, None if right else "the model says %r; known is %r" % (said[1][:300], case.answer[:300])

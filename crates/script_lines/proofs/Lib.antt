@@ -2,7 +2,7 @@ mod AroundWords
 mod WordByWord
 mod LineTexts
 mod EachOne
-mod KindsRead
+mod NamesRead
 mod Refusing
 mod Slashes
 mod ReferencesRead

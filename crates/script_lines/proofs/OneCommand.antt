@@ -1,23 +1,52 @@
 -- What a line says that begins with the word of a command.
---     another          it is no other command's
+--     differs          a word is not that of what a line says
+--     other, another   it is no other command's
 --     only-edit and the like      what stands behind the word
-use Rattle.std.proofs.Common.{◌≡◌, ℕ, true, false, nat_eq, List, [], ◌∷◌, codes, Some, refl, sym, ◌∙◌, ap, subst}
+use Rattle.std.proofs.Common.{◌≡◌, ℕ, Bool, true, false, not, ◌&&◌, nat_eq, List, [], ◌∷◌, codes, Some, refl, sym, ◌∙◌, ap, subst}
 use Rattle.std.specs.Cmp.Lexicographic.{pointwise}
 use Rattle.cst_core.specs.SyntaxKind.{SyntaxKind}
 use Rattle.cst_core.specs.Tree.{SyntaxTree}
 use Rattle.tree_text.specs.KindNames.{name_in}
-use Rattle.script_lines.specs.Dialect.{Language, names_kinds}
-use Rattle.script_lines.specs.Line.{Each, IsGap, IsLine, IsNumber, IsRef, IsTreeLine, fields, is_comment}
+use Rattle.script_lines.specs.Dialect.{Language, is_wide}
+use Rattle.script_lines.specs.Line.{Each, IsGap, IsLine, IsNumber, IsRef, IsTreeLine, detail_name, fields, is_comment, shift_word}
 use Rattle.script_lines.specs.Name.{IsName}
-use Rattle.script_lines.specs.ScriptLine.{Ref, Gap, ScriptLine, Kinds, Tree, Edit, Map, Insert, Delete, Replace, Range, Note, Remove, Order, Finish}
+use Rattle.script_lines.specs.declared.detail.Detail.{Detail}
+use Rattle.script_lines.specs.declared.line.Shift.{Shift}
+use Rattle.script_lines.specs.declared.line.Shift.TheVariants.{Indent, Dedent}
+use Rattle.script_lines.specs.ScriptLine.{Ref, Gap, ScriptLine, Kinds, Tree, Edit, Map, Insert, Delete, Replace, Range, Note, Remove, Order, Show, Spaced, Shifted, Finish}
 use Rattle.script_lines.proofs.WordOfLine.{begins, word-of}
+
+-- what a line says that has none of these words: those of a line that indents or dedents are both none of them
+abbrev differs : List ℕ → ScriptLine → Bool
+differs word (Shifted shift name node) = not (pointwise nat_eq word (codes "indent")) && not (pointwise nat_eq word (codes "dedent"))
+differs word l = not (pointwise nat_eq word (word-of l))
+
+not-true : (b : Bool) → not b ≡ true → b ≡ false
+not-true true is = absurd is
+not-true false is = refl
+
+first-not : (b c : Bool) → (not b && not c) ≡ true → b ≡ false
+first-not true c is = absurd is
+first-not false c is = refl
+
+second-not : (b c : Bool) → (not b && not c) ≡ true → c ≡ false
+second-not true c is = absurd is
+second-not false c is = not-true c is
+
+differs-not : (word : List ℕ) (l : ScriptLine) → differs word l ≡ true → pointwise nat_eq word (word-of l) ≡ false
+differs-not word (Shifted Indent name node) is = first-not (pointwise nat_eq word (codes "indent")) _ is
+differs-not word (Shifted Dedent name node) is = second-not (pointwise nat_eq word (codes "indent")) _ is
+differs-not word l is = not-true (pointwise nat_eq word (word-of l)) is
 
 module _ (lang : Language) where
   -- a line of another word
-  another : {A : Type 0} (line word : List ℕ) (all : List (List ℕ)) → fields line ≡ word ∷ all → is_comment word ≡ false → (l : ScriptLine) → IsLine lang line l → (pointwise nat_eq word word ≡ true) → (pointwise nat_eq word (word-of l) ≡ false) → A
-  another line word all is comment l said own other =
+  other : {A : Type 0} (line word : List ℕ) (all : List (List ℕ)) → fields line ≡ word ∷ all → is_comment word ≡ false → (l : ScriptLine) → IsLine lang line l → (pointwise nat_eq word word ≡ true) → (pointwise nat_eq word (word-of l) ≡ false) → A
+  other line word all is comment l said own other =
       let e : true ≡ false = sym own ∙ ap (λ w. pointwise nat_eq word w) (begins lang line word all is comment l said) ∙ other in
       absurd (cc)
+
+  another : {A : Type 0} (line word : List ℕ) (all : List (List ℕ)) → fields line ≡ word ∷ all → is_comment word ≡ false → (l : ScriptLine) → IsLine lang line l → (pointwise nat_eq word word ≡ true) → differs word l ≡ true → A
+  another line word all is comment l said own other-word = other line word all is comment l said own (differs-not word l other-word)
 
   behind : (fs : List (List ℕ)) (word : List ℕ) (all others : List (List ℕ)) → fs ≡ word ∷ all → fs ≡ word ∷ others → all ≡ others
   behind fs word all others is says = cc
@@ -151,9 +180,44 @@ module _ (lang : Language) where
   only-finish line all is l said = another line (codes "finish") all is refl l said refl refl
 
   -- ---- kinds
-  pub only-kinds : (line : List ℕ) (all : List (List ℕ)) → fields line ≡ codes "kinds" ∷ all → (l : ScriptLine) → IsLine lang line l → names_kinds lang.dialect ≡ true
+  pub only-kinds : (line : List ℕ) (all : List (List ℕ)) → fields line ≡ codes "kinds" ∷ all → (l : ScriptLine) → IsLine lang line l → is_wide lang.dialect ≡ true
   only-kinds line all is (Kinds names) said = said.0
   only-kinds line all is l said = another line (codes "kinds") all is refl l said refl refl
+
+  -- ---- show
+  pub record SaysShow (all : List (List ℕ)) : Type 0 where
+    pub detail : Detail
+    pub is : all ≡ detail_name detail ∷ []
+    pub wide : is_wide lang.dialect ≡ true
+
+  pub only-show : (line : List ℕ) (all : List (List ℕ)) → fields line ≡ codes "show" ∷ all → (l : ScriptLine) → IsLine lang line l → SaysShow all
+  only-show line all is (Show detail) said = record { detail = detail; is = behind (fields line) (codes "show") all _ is said.1; wide = said.0 }
+  only-show line all is l said = another line (codes "show") all is refl l said refl refl
+
+  -- ---- spaced
+  pub record SaysSpaced (all : List (List ℕ)) : Type 0 where
+    pub says : SaysInsert all
+    pub wide : is_wide lang.dialect ≡ true
+
+  pub only-spaced : (line : List ℕ) (all : List (List ℕ)) → fields line ≡ codes "spaced" ∷ all → (l : ScriptLine) → IsLine lang line l → SaysSpaced all
+  only-spaced line all is (Spaced at payload) said = record { says = record { at = at; payload = payload; word = said.0; beside = said.1; others = said.2; is = behind (fields line) (codes "spaced") all _ is said.4; placed = said.5; referred = said.6 }; wide = said.3 }
+  only-spaced line all is l said = another line (codes "spaced") all is refl l said refl refl
+
+  -- ---- indent and dedent
+  pub record SaysShifted (all : List (List ℕ)) : Type 0 where
+    pub says : SaysEdit all
+    pub wide : is_wide lang.dialect ≡ true
+
+  shifted : (line word : List ℕ) (all : List (List ℕ)) (shift : Shift) (name : List ℕ) (node : Ref) → fields line ≡ word ∷ all → IsLine lang line (Shifted shift name node) → word ≡ shift_word shift → SaysShifted all
+  shifted line word all shift name node is said own = record { says = record { name = name; node = node; field = said.0; is = behind (fields line) (shift_word shift) all _ (is ∙ ap (λ w. w ∷ all) own) said.2; named = said.3; referred = said.4 }; wide = said.1 }
+
+  pub only-shifted : (line : List ℕ) (shift : Shift) (all : List (List ℕ)) → fields line ≡ shift_word shift ∷ all → (l : ScriptLine) → IsLine lang line l → SaysShifted all
+  only-shifted line Indent all is (Shifted Indent name node) said = shifted line (codes "indent") all Indent name node is said refl
+  only-shifted line Dedent all is (Shifted Dedent name node) said = shifted line (codes "dedent") all Dedent name node is said refl
+  only-shifted line Indent all is (Shifted Dedent name node) said = other line (codes "indent") all is refl (Shifted Dedent name node) said refl refl
+  only-shifted line Dedent all is (Shifted Indent name node) said = other line (codes "dedent") all is refl (Shifted Indent name node) said refl refl
+  only-shifted line Indent all is l said = another line (codes "indent") all is refl l said refl refl
+  only-shifted line Dedent all is l said = another line (codes "dedent") all is refl l said refl refl
 
   -- ---- tree
   pub only-tree : (line : List ℕ) (all : List (List ℕ)) → fields line ≡ codes "tree" ∷ all → (l : ScriptLine) → IsLine lang line l → (name : List ℕ) × (root : SyntaxTree) × IsTreeLine lang line name root

@@ -4,7 +4,8 @@
 use Rattle.std.proofs.Common.{◌≡◌, ◌≢◌, ℕ, true, false, List, ◌∷◌, codes, sym, ◌∙◌, ap}
 use Rattle.script_lines.specs.Dialect.{Language}
 use Rattle.script_lines.specs.Line.{IsLine, fields, is_comment, no_command}
-use Rattle.script_lines.specs.ScriptLine.{ScriptLine, Blank, Kinds, Tree, Edit, Map, Insert, Delete, Replace, Range, Note, Remove, Order, Finish}
+use Rattle.script_lines.specs.ScriptLine.{ScriptLine, Blank, Kinds, Tree, Edit, Map, Insert, Delete, Replace, Range, Note, Remove, Order, Show, Spaced, Shifted, Finish}
+use Rattle.script_lines.specs.declared.line.Shift.TheVariants.{Indent, Dedent}
 use Rattle.script_lines.proofs.WordOfLine.{begins}
 
 pub record IsNoWord (word : List ℕ) : Type 0 where
@@ -19,6 +20,10 @@ pub record IsNoWord (word : List ℕ) : Type 0 where
   pub not_note : word ≢ codes "note"
   pub not_remove : word ≢ codes "remove"
   pub not_order : word ≢ codes "order"
+  pub not_show : word ≢ codes "show"
+  pub not_spaced : word ≢ codes "spaced"
+  pub not_indent : word ≢ codes "indent"
+  pub not_dedent : word ≢ codes "dedent"
   pub not_finish : word ≢ codes "finish"
 
 module _ (lang : Language) where
@@ -37,4 +42,8 @@ module _ (lang : Language) where
   no-line line word all is comment other (Note w element) said = other.not_note (begins lang line word all is comment (Note w element) said)
   no-line line word all is comment other (Remove element separator) said = other.not_remove (begins lang line word all is comment (Remove element separator) said)
   no-line line word all is comment other (Order order) said = other.not_order (begins lang line word all is comment (Order order) said)
+  no-line line word all is comment other (Show detail) said = other.not_show (begins lang line word all is comment (Show detail) said)
+  no-line line word all is comment other (Spaced at payload) said = other.not_spaced (begins lang line word all is comment (Spaced at payload) said)
+  no-line line word all is comment other (Shifted Indent name node) said = other.not_indent (begins lang line word all is comment (Shifted Indent name node) said)
+  no-line line word all is comment other (Shifted Dedent name node) said = other.not_dedent (begins lang line word all is comment (Shifted Dedent name node) said)
   no-line line word all is comment other Finish said = other.not_finish (begins lang line word all is comment Finish said)

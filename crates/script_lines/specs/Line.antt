@@ -8,6 +8,8 @@
 --     IsNumber                      Decimal digits, at least one, of a number below 2^64.
 --     IsRef                         The parts between the slashes of a field are a name and then the numbers of a path.
 --     IsGap                         A word and a field say a position: `first` or `last` and a node, `before` or `after` and an element.
+--     detail_name                   The name of what an answer is to show.
+--     shift_word                    The word of a line that indents or dedents.
 --     IsSpaces                      Nothing but spaces.
 --     IsLineTree                    An expression of a tree with only spaces between elements, with the names of kinds that were given, nested
 --                                   at most as deep as the dialect allows.
@@ -27,9 +29,13 @@ use Rattle.cst_core.specs.Tree.{SyntaxTree}
 use Rattle.tree_text.specs.Depth.{depth}
 use Rattle.tree_text.specs.Grammar.{IsExpression, is_gap_space}
 use Rattle.tree_text.specs.KindNames.{name_in}
-use Rattle.script_lines.specs.Dialect.{Language, depth_in, names_kinds}
+use Rattle.script_lines.specs.Dialect.{Language, depth_in, is_wide}
 use Rattle.script_lines.specs.Name.{IsName}
-use Rattle.script_lines.specs.ScriptLine.{Ref, Gap, First, Last, Before, After, ScriptLine, Blank, Kinds, Tree, Edit, Map, Insert, Delete, Replace, Range, Note, Remove, Order, Finish}
+use Rattle.script_lines.specs.declared.line.Shift.{Shift}
+use Rattle.script_lines.specs.declared.line.Shift.TheVariants.{Indent, Dedent}
+use Rattle.script_lines.specs.declared.detail.Detail.{Detail}
+use Rattle.script_lines.specs.declared.detail.Detail.TheVariants as detail
+use Rattle.script_lines.specs.ScriptLine.{Ref, Gap, First, Last, Before, After, ScriptLine, Blank, Kinds, Tree, Edit, Map, Insert, Delete, Replace, Range, Note, Remove, Order, Show, Spaced, Shifted, Finish}
 
 abbrev pub line_text : List ℕ → List ℕ
 line_text line = cond (ends_with nat_eq line (13 ∷ [])) (take (length line - 1) line) line
@@ -78,6 +84,15 @@ IsGap word beside (Last node) = (word ≡ codes "last") × IsRef beside node
 IsGap word beside (Before element) = (word ≡ codes "before") × IsRef beside element
 IsGap word beside (After element) = (word ≡ codes "after") × IsRef beside element
 
+abbrev pub detail_name : Detail → List ℕ
+detail_name detail.Edits = codes "edits"
+detail_name detail.Tree = codes "tree"
+detail_name detail.Ranges = codes "ranges"
+
+abbrev pub shift_word : Shift → List ℕ
+shift_word Indent = codes "indent"
+shift_word Dedent = codes "dedent"
+
 -- ---- lines
 abbrev pub IsSpaces : List ℕ → Type 0
 IsSpaces text = AllByRecursion (λ b. b ≡ 32) text
@@ -99,7 +114,7 @@ pub record IsTreeLine (l : Language) (line name : List ℕ) (root : SyntaxTree) 
 
 abbrev pub IsLine : Language → List ℕ → ScriptLine → Type 0
 IsLine l line Blank = is_blank line ≡ true
-IsLine l line (Kinds names) = (names_kinds l.dialect ≡ true) × (fields line ≡ codes "kinds" ∷ names)
+IsLine l line (Kinds names) = (is_wide l.dialect ≡ true) × (fields line ≡ codes "kinds" ∷ names)
 IsLine l line (Tree name root) = IsTreeLine l line name root
 IsLine l line (Edit name node) =
     (f : List ℕ) × (fields line ≡ codes "edit" ∷ name ∷ f ∷ []) × IsName name × IsRef f node
@@ -120,4 +135,11 @@ IsLine l line (Note word element) =
 IsLine l line (Remove element separator) =
     (f k : List ℕ) × (fields line ≡ codes "remove" ∷ f ∷ k ∷ []) × IsRef f element × (name_in l.kinds separator.0 ≡ Some k)
 IsLine l line (Order order) = (fs : List (List ℕ)) × (fields line ≡ codes "order" ∷ fs) × Each IsNumber fs order
+IsLine l line (Show detail) = (is_wide l.dialect ≡ true) × (fields line ≡ codes "show" ∷ detail_name detail ∷ [])
+IsLine l line (Spaced at payload) =
+    (w f : List ℕ) × (fs : List (List ℕ)) ×
+    (is_wide l.dialect ≡ true) × (fields line ≡ codes "spaced" ∷ w ∷ f ∷ fs) × IsGap w f at × Each IsRef fs payload
+IsLine l line (Shifted shift name node) =
+    (f : List ℕ) ×
+    (is_wide l.dialect ≡ true) × (fields line ≡ shift_word shift ∷ name ∷ f ∷ []) × IsName name × IsRef f node
 IsLine l line Finish = fields line ≡ codes "finish" ∷ []

@@ -14,7 +14,7 @@ use Rattle.script_lines.specs.declared.reference.Reference.{Reference}
 use Rattle.script_lines.specs.declared.line.WrittenPosition.{WrittenPosition}
 use Rattle.script_lines.specs.declared.line.WrittenPosition.TheVariants.{First, Last, Before, After}
 use Rattle.script_lines.specs.declared.line.Line.{Line}
-use Rattle.script_lines.specs.declared.line.Line.TheVariants.{Blank, Kinds, Tree, Edit, Map, Insert, Delete, Replace, Range, Note, Remove, Order, Finish}
+use Rattle.script_lines.specs.declared.line.Line.TheVariants.{Blank, Kinds, Tree, Edit, Map, Insert, Delete, Replace, Range, Note, Remove, Order, Show, Spaced, Shifted, Finish}
 
 abbrev pub language_of : code.Language → Language
 language_of l = record { dialect = l.dialect; kinds = l.names }
@@ -47,4 +47,7 @@ line_of (Range first last payload) = line.Range (ref_of first) (ref_of last) (re
 line_of (Note word element) = line.Note word.text.now (ref_of element)
 line_of (Remove element separator) = line.Remove (ref_of element) separator
 line_of (Order order) = line.Order order.items
+line_of (Show detail) = line.Show detail
+line_of (Spaced at payload) = line.Spaced (gap_of at) (refs_of payload)
+line_of (Shifted shift name node) = line.Shifted shift name.text.now (ref_of node)
 line_of Finish = line.Finish

@@ -3,12 +3,14 @@
 --
 --     Ref, Gap                      The way to an element: the name of a tree, and a path in it. A position: the first or the last gap of a
 --                                   node, the gap before or after an element.
---     ScriptLine                    What a line says: nothing (`Blank`), or one of the twelve commands with what it names. A tree stands
---                                   for itself, names and annotation words are bytes.
+--     ScriptLine                    What a line says: nothing (`Blank`), or one of the commands with what it names. A tree stands for
+--                                   itself, names and annotation words are bytes.
 use Rattle.std.specs.Prelude.{ℕ, List}
 use Rattle.cst_core.specs.Path.{Path}
 use Rattle.cst_core.specs.Tree.{SyntaxTree}
 use Rattle.cst_core.specs.SyntaxKind.{SyntaxKind}
+use Rattle.script_lines.specs.declared.detail.Detail.{Detail}
+use Rattle.script_lines.specs.declared.line.Shift.{Shift}
 
 pub record Ref : Type 0 where
   pub name : List ℕ
@@ -33,4 +35,7 @@ pub data ScriptLine : Type 0 where
   Note : (word : List ℕ) (element : Ref) → ScriptLine
   Remove : (element : Ref) (separator : SyntaxKind) → ScriptLine
   Order : (order : List ℕ) → ScriptLine
+  Show : (detail : Detail) → ScriptLine
+  Spaced : (at : Gap) (payload : List Ref) → ScriptLine
+  Shifted : (shift : Shift) (name : List ℕ) (node : Ref) → ScriptLine
   Finish : ScriptLine

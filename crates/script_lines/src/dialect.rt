@@ -1,7 +1,7 @@
 //! `Dialect`: a form of scripts, and how much it allows.
 
 ghost use Rattle.std.specs.Prelude.{◌≡◌, ◌<◌, ◌^◌};
-ghost use Rattle.script_lines.specs.Dialect.{bytes_in, depth_in, names_kinds};
+ghost use Rattle.script_lines.specs.Dialect.{bytes_in, depth_in, is_wide};
 
 use tree_text::DEPTH_LIMIT;
 
@@ -13,7 +13,7 @@ pub const SCRIPT_LIMIT: usize = 1_048_576;
 pub enum Dialect {
     /// Scripts of at most `SCRIPT_LIMIT` bytes, of the 65 kinds, nested at most `DEPTH_LIMIT` deep.
     Syned,
-    /// Scripts of any size below 2^32 bytes, of kinds that they name themselves, nested as deep as there are bytes.
+    /// Scripts of any size below 2^32 bytes, of kinds that they name themselves, nested as deep as there are bytes, with lines of their own.
     Wide,
 }
 
@@ -40,9 +40,9 @@ impl Dialect {
         }
     }
 
-    /// Whether a line may give names to kinds.
-    pub fn names_kinds(self) -> bool
-        ensures { result ≡ names_kinds self }
+    /// Whether a line may have the words of the wide dialect alone: `kinds`, `show`, `spaced`, `indent` and `dedent`.
+    pub fn is_wide(self) -> bool
+        ensures { result ≡ is_wide self }
     {
         match self {
             Dialect::Syned => false,

@@ -20,6 +20,8 @@ pub enum Wanted {
     Number,
     /// The word before the element that a position is beside.
     Place,
+    /// What an answer is to show.
+    Detail,
     /// The end of the line.
     End,
 }
@@ -28,7 +30,7 @@ impl Wanted {
     fn as_str(self) -> &'static str {
         match self {
             Wanted::Word => {
-                "a line begins with tree, edit, map, insert, delete, replace, range, note, remove, order, finish or #"
+                "a line begins with tree, edit, map, insert, delete, replace, range, note, remove, order, finish or #; in the wide dialect also with kinds, spaced, indent, dedent or show"
             }
             Wanted::Name =>
                 "a name is expected: at most 32 letters, digits and underscores, a letter first",
@@ -38,6 +40,7 @@ impl Wanted {
             Wanted::NewKind => "a name for a kind is expected: letters, digits and underscores",
             Wanted::Number => "the number of a change is expected",
             Wanted::Place => "first, last, before or after is expected",
+            Wanted::Detail => "edits, tree or ranges is expected",
             Wanted::End => "the line has to end",
         }
     }

@@ -5,9 +5,11 @@ ghost use Rattle.script_lines.specs.Line.{Each, IsNumber, IsRef, fields, no_comm
 ghost use Rattle.script_lines.specs.LineValue.{ref_of, refs_of, texts_of};
 ghost use Rattle.script_lines.specs.Refusals.{Refuses};
 ghost use Rattle.cst_core.specs.SyntaxKind.{SyntaxKind};
-ghost use Rattle.script_lines.specs.inner.Taken.{Begins, IsKindName, IsLast, IsNamed, IsTaken};
+ghost use Rattle.script_lines.specs.declared.detail.Detail.{Detail};
+ghost use Rattle.script_lines.specs.inner.Taken.{Begins, IsDetail, IsKindName, IsLast, IsNamed, IsTaken};
 ghost use Rattle.script_lines.specs.inner.Word.{IsFirstWord, IsLeft, IsSpread};
 
+use crate::detail::Detail;
 use crate::error::LineError;
 use crate::fault::{Fault, Wanted};
 use crate::name::Name;
@@ -116,6 +118,16 @@ impl<'a> Fields<'a> {
         names
             .kind(field.text)
             .ok_or(Fault::wanted(field.at, Wanted::Kind))
+    }
+
+    /// What an answer is to show, after which nothing is left.
+    pub(crate) fn last_detail(&mut self) -> Result<Detail, Fault>
+        ensures ok { IfOk result (λ d. IsLast IsDetail (words self.old.rest.now) d) }
+        ensures bad { OnErr result ((d : Detail) → IsLast IsDetail (words self.old.rest.now) d → ⊥) }
+    {
+        let field = self.field(Wanted::Detail)?;
+        self.end()?;
+        Detail::from_name(field.text).ok_or(Fault::wanted(field.at, Wanted::Detail))
     }
 
     pub(crate) fn reference(&mut self, alloc: Global) -> Result<Reference<'a>, LineError>

@@ -1,11 +1,13 @@
 //! The lines of a script.
-ghost use Rattle.std.specs.Prelude.{◌≡◌, IfOk, IfErr, codes};
+ghost use Rattle.std.specs.Prelude.{◌≡◌, true, false, IfOk, IfErr, OnOk, OnErr, codes};
 ghost use Rattle.cst_core.specs.Green.{branch_tree};
-ghost use Rattle.script_lines.specs.Line.{IsLine, IsLineTree, is_blank, words};
+ghost use Rattle.script_lines.specs.Dialect.{is_wide};
+ghost use Rattle.script_lines.specs.Line.{IsLine, IsLineTree, is_blank, shift_word, words};
 ghost use Rattle.script_lines.specs.LineValue.{gap_of, language_of, line_of};
 ghost use Rattle.script_lines.specs.Refusals.{Refuses};
 ghost use Rattle.script_lines.specs.inner.Commands.{BeginsPlace, IsPlace, IsRead, IsReadIn, IsTreeRead};
 
+use crate::detail::Detail;
 use crate::error::LineError;
 use crate::fault::{Fault, Wanted};
 use crate::field::{Field, Fields};
@@ -75,8 +77,30 @@ pub enum Line<'a> {
     Order {
         order: Vec<usize>,
     },
+    /// What the answer shows besides.
+    Show {
+        detail: Detail,
+    },
+    /// New elements at a position, with whitespace round them.
+    Spaced {
+        at: WrittenPosition<'a>,
+        payload: Vec<Reference<'a>>,
+    },
+    /// A new tree of this name: the node, a level further in or out.
+    Shifted {
+        shift: Shift,
+        name: Name<'a>,
+        node: Reference<'a>,
+    },
     /// The new tree is made.
     Finish,
+}
+
+/// Whether a node is put a level further in or out.
+#[derive(Clone, Copy, Debug, PartialEq, Eq)]
+pub enum Shift {
+    Indent,
+    Dedent,
 }
 
 /// Where new elements are put.
@@ -115,6 +139,10 @@ pub fn read_line<'a>(
         "note" => note_line(alloc, &mut fields),
         "remove" => remove_line(alloc, language, &mut fields),
         "order" => order_line(alloc, &mut fields),
+        "show" => show_line(language, word, &mut fields),
+        "spaced" => spaced_line(alloc, language, word, &mut fields),
+        "indent" => shift_line(alloc, language, word, Shift::Indent, &mut fields),
+        "dedent" => shift_line(alloc, language, word, Shift::Dedent, &mut fields),
         "finish" => finish_line(&fields),
         _ => Err(LineError::from(Fault::wanted(word.at, Wanted::Word))),
     }
@@ -127,7 +155,18 @@ pub fn is_blank(text: &str) -> bool
     Fields::of_line(text).word().is_none()
 }
 
-// The word of a line that may not name kinds says nothing.
+// The word of a line of the wide dialect alone says nothing in the other.
+fn test_wide(language: &Language, word: Field<'_>) -> Result<(), Fault>
+    ensures ok { OnOk result (is_wide language.now.dialect ≡ true) }
+    ensures bad { OnErr result (is_wide language.now.dialect ≡ false) }
+{
+    if language.dialect.is_wide() {
+        Ok(())
+    } else {
+        Err(Fault::wanted(word.at, Wanted::Word))
+    }
+}
+
 fn kinds_line<'a>(
     alloc: Global,
     language: &Language,
@@ -136,9 +175,7 @@ fn kinds_line<'a>(
 ) -> Result<Line<'a>, LineError>
     ensures { IsReadIn (language_of language.now) (codes "kinds") (words fields.old.rest.now) result }
 {
-    if !language.dialect.names_kinds() {
-        return Err(LineError::from(Fault::wanted(word.at, Wanted::Word)));
-    }
+    test_wide(language, word)?;
     let names = fields.others(alloc)?;
     Ok(Line::Kinds { names })
 }
@@ -272,6 +309,47 @@ fn order_line<'a>(alloc: Global, fields: &mut Fields<'a>) -> Result<Line<'a>, Li
 {
     let order = fields.numbers(alloc)?;
     Ok(Line::Order { order })
+}
+
+fn show_line<'a>(
+    language: &Language,
+    word: Field<'_>,
+    fields: &mut Fields<'_>,
+) -> Result<Line<'a>, LineError>
+    ensures { IsReadIn (language_of language.now) (codes "show") (words fields.old.rest.now) result }
+{
+    test_wide(language, word)?;
+    let detail = fields.last_detail()?;
+    Ok(Line::Show { detail })
+}
+
+fn spaced_line<'a>(
+    alloc: Global,
+    language: &Language,
+    word: Field<'_>,
+    fields: &mut Fields<'a>,
+) -> Result<Line<'a>, LineError>
+    ensures { IsReadIn (language_of language.now) (codes "spaced") (words fields.old.rest.now) result }
+{
+    test_wide(language, word)?;
+    let at = read_position(alloc, fields)?;
+    let payload = fields.references(alloc)?;
+    Ok(Line::Spaced { at, payload })
+}
+
+fn shift_line<'a>(
+    alloc: Global,
+    language: &Language,
+    word: Field<'_>,
+    shift: Shift,
+    fields: &mut Fields<'a>,
+) -> Result<Line<'a>, LineError>
+    ensures { IsReadIn (language_of language.now) (shift_word shift) (words fields.old.rest.now) result }
+{
+    test_wide(language, word)?;
+    let name = fields.name()?;
+    let node = fields.last_reference(alloc)?;
+    Ok(Line::Shifted { shift, name, node })
 }
 
 fn finish_line<'a>(fields: &Fields<'_>) -> Result<Line<'a>, LineError>

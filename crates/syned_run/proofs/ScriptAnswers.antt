@@ -35,7 +35,7 @@ use Rattle.script_lines.specs.ScriptLine as line
 use Rattle.script_lines.specs.ScriptLine.{ScriptLine}
 use Rattle.script_lines.specs.Line.{is_blank}
 use Rattle.syned_script.specs.declared.refusal.Refusal.{Refusal}
-use Rattle.syned_script.specs.State.{State, new_state, Editing, Refuses, IsBad}
+use Rattle.syned_script.specs.State.{State, new_state, no_details, asks, Editing, Refuses, IsBad}
 use Rattle.syned_script.specs.Script.{Outcome, Edited, Refused, BadLine, Ends, LineEnds, FinishEnds, FinishGives, EndRefuses, lines_in}
 use Rattle.script_lines.specs.Dialect.{bytes_in}
 use Rattle.script_lines.specs.Line.{IsLine}
@@ -44,7 +44,7 @@ use Rattle.syned_run.specs.Answer.{IsNoScript, printed, status_of}
 use Rattle.syned_run.specs.inner.SynedAnswer.{IsAnswer}
 use Rattle.syned_run.proofs.ScriptLines.{both, reads, says}
 use Rattle.syned_run.proofs.ScriptFaults.{says_nothing, nothing-said}
-use Rattle.syned_run.proofs.ScriptRuns.{step, steps, run, all_read, runs, is_syned, syned-is, stays-syned}
+use Rattle.syned_run.proofs.ScriptRuns.{not-true, step, steps, run, all_read, runs, is_syned, syned-is, stays-syned}
 use Rattle.syned_run.proofs.ScriptEdits.{the_one, is_one, edit_of, can_make, makes, is_plan, plans, unowned, owns_nothing, no_places}
 
 -- ---- scripts
@@ -180,7 +180,7 @@ too_early script answer ls begins reads_it none same =
 
 -- an editing, where there is one
 abbrev no_editing : Editing
-no_editing = record { editor = editor_of (record { number = 0; root = Token 0 []; path = [] }) [] [] None; order = None }
+no_editing = record { editor = editor_of (record { number = 0; root = Token 0 []; path = [] }) [] [] None; order = None; details = no_details }
 
 abbrev pub editing_after : List ScriptLine → Editing
 editing_after ls = unwrap_or (state_after ls).editing no_editing
@@ -236,7 +236,7 @@ is_short made = nat_lt (text_length (plain made)) length_limit
 abbrev pub can_carry_out : (ℕ → Path) → List ScriptLine → Bool
 can_carry_out places ls =
     is_plan (plan_after ls) && is_one (new_tree (plan_after ls).changes places (plan_after ls).root) && can_make (plan_after ls) (state_after ls).next (made_after places ls)
-    && is_short (made_after places ls)
+    && is_short (made_after places ls) && not (asks (editing_after ls).details)
 
 abbrev pub HasOrder : List ScriptLine → Type 0
 HasOrder ls = IfSome (editing_after ls).order (IsAllowed (editing_after ls).editor.changes)
@@ -247,10 +247,11 @@ edited_with script answer ls places are allowed begins finish can same =
     let one = is_one (new_tree p.changes places p.root) in
     let make = can_make p (state_after ls).next (made_after places ls) in
     let short = ltb-true (text_length (plain (made_after places ls))) length_limit in
-    let whole = both (is_plan p && one && make) (is_short (made_after places ls)) can in
+    let all = both (is_plan p && one && make && is_short (made_after places ls)) (not (asks (editing_after ls).details)) can in
+    let whole = both (is_plan p && one && make) (is_short (made_after places ls)) all.0 in
     let parts = both (is_plan p && one) make whole.0 in
     let front = both (is_plan p) one parts.0 in
-    finished script answer ls (edit_after places ls) begins finish ((plans p places are front.0, allowed, makes p (state_after ls).next places are front.1 parts.1, short whole.1), refl) same
+    finished script answer ls (edit_after places ls) begins finish ((plans p places are front.0, allowed, makes p (state_after ls).next places are front.1 parts.1, short whole.1), refl, not-true (asks (editing_after ls).details) all.1) same
 
 pub no-order : (ls : List ScriptLine) → is_none (editing_after ls).order ≡ true → HasOrder ls
 no-order ls h = elsewhere (editing_after ls).order h where

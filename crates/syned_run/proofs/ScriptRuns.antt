@@ -219,6 +219,9 @@ step s (line.Map parent input output) = map_step s (node_in s.roots parent) (nod
 step s (line.Note word element) = Some (note_step s word (element_in s.roots element))
 step s (line.Order order) = Some (order_step s order)
 step s (line.Kinds names) = None
+step s (line.Show detail) = None
+step s (line.Spaced at payload) = None
+step s (line.Shifted shift name node) = None
 step s line.Finish = None
 step s call = Some (recorded_in s (call_in s.roots call))
 
@@ -233,6 +236,9 @@ map-steps s parent input output x is = some-same _ x is
 pub steps : (s : State) (l : ScriptLine) (x : Step) → step s l ≡ Some x → Steps s l x
 steps s (line.Map parent input output) x is = map-steps s (node_in s.roots parent) (node_in s.roots input) (node_in s.roots output) x is
 steps s (line.Kinds names) x is = absurd (cc)
+steps s (line.Show detail) x is = absurd (cc)
+steps s (line.Spaced at payload) x is = absurd (cc)
+steps s (line.Shifted shift name node) x is = absurd (cc)
 steps s line.Finish x is = absurd (cc)
 steps s l x is = some-same _ x is
 

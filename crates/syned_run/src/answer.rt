@@ -1,12 +1,12 @@
 //! What a run prints, and its exit status.
 ghost use Rattle.std.specs.Prelude.{◌≡◌, IfOk, string_bytes};
 ghost use Rattle.std.specs.Option.{MatchOption};
-ghost use Rattle.syned_script.specs.Script.{Edited};
+ghost use Rattle.syned_script.specs.ShownValue.{outcome_of};
 ghost use Rattle.syned_script.specs.RefusalText.{refusal_text};
 ghost use Rattle.syned_run.specs.Answer.{IsAnswerFor, IsNoScript, IsOutcome, printed, refused_text, bad_text};
 ghost use Rattle.syned_run.specs.inner.ExitCode.{exit_code};
 
-use crate::print::print_edit;
+use crate::print::{print_edit, push_shown};
 use crate::status::Status;
 use std::alloc::{AllocError, Global};
 use syned_script::{CarriedOut, Dialect, Refusal, Stop, Stopped, carry_out_for};
@@ -58,13 +58,26 @@ fn answer_to_text(alloc: Global, dialect: Dialect, script: &str) -> Result<Answe
 
 fn edit_answer(alloc: Global, done: &CarriedOut) -> Result<Answer, AllocError>
     ensures status { IfOk result (λ a. exit_code a.status ≡ 0) }
-    ensures text { IfOk result (λ a. string_bytes a.text ≡ printed (Edited done.now.edit done.now.words)) }
+    ensures text { IfOk result
+        (λ a. string_bytes a.text ≡ printed (outcome_of done.now.edit done.now.words done.now.shown)) }
 {
-    let text = print_edit(alloc, &done.edit, done.words.in_order())?;
     Ok(Answer {
         status: Status::Done,
-        text,
+        text: edit_text(alloc, done)?,
     })
+}
+
+fn edit_text(alloc: Global, done: &CarriedOut) -> Result<String, AllocError>
+    ensures { IfOk result
+        (λ s. string_bytes s ≡ printed (outcome_of done.now.edit done.now.words done.now.shown)) }
+{
+    let (edit, words) = (&done.edit, done.words.in_order());
+    let Some(shown) = &done.shown else {
+        return print_edit(alloc, edit, words, false);
+    };
+    let mut text = print_edit(alloc, edit, words, shown.details.ranges)?;
+    push_shown(alloc, &mut text, shown, edit.new_root().as_green())?;
+    Ok(text)
 }
 
 fn bad_script(alloc: Global, line: usize) -> Result<Answer, AllocError>

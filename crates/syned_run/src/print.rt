@@ -1,73 +1,103 @@
 //! What is printed of an edit that was made.
 ghost use Rattle.std.specs.Prelude.{◌≡◌, ◌++◌, [], map, flat_map, IfOk, OnOk, string_bytes};
+ghost use Rattle.cst_core.specs.Green.{branch_tree};
 ghost use Rattle.cst_core.specs.Tree.{text};
 ghost use Rattle.cst_core.specs.Element.{subtree};
 ghost use Rattle.syntax_editor.specs.PlanText.{path_text};
-ghost use Rattle.syned_run.specs.Answer.{edit_text, note_text, paths_of, paths_text};
+ghost use Rattle.syned_script.specs.ShownValue.{showing_of};
+ghost use Rattle.syned_run.specs.Answer.{edit_line, edit_text, note_text, place_of, places_of, places_text, shown_text, tree_line};
 ghost use Rattle.syned_run.specs.inner.Printing.{note_shown};
 
-use cst_core::SyntaxElement;
+use cst_core::{GreenNode, SyntaxElement};
 use std::alloc::{AllocError, Global};
-use syned_script::Word;
-use syntax_editor::SyntaxEdit;
-use tree_text::push_escaped;
+use syned_script::{Shown, Word};
+use syntax_editor::{SyntaxEdit, TextEdits};
+use tree_text::{KindNames, WriteError, push_escaped, write_tree_with};
 
-/// The new text, the paths of the elements that changed, and for each word those of its elements.
+/// The new text, the places of the elements that changed, and for each word those of its elements. Where ranges are shown, a place has one.
 pub(crate) fn print_edit(
     alloc: Global,
     edit: &SyntaxEdit,
     words: &[Word],
+    ranges: bool,
 ) -> Result<String, AllocError>
-    ensures { let new = text (subtree edit.now.new_root) in let notes = map (note_shown edit.now) words.now in
-        IfOk result (λ s. string_bytes s ≡ edit_text new (paths_of edit.now.changed) notes) }
+    ensures { let new = text (subtree edit.now.new_root) in let notes = map (note_shown ranges edit.now) words.now in
+        IfOk result (λ s. string_bytes s ≡ edit_text new (places_of ranges edit.now.changed) notes) }
 {
-    let mut out = print_changed(alloc, edit)?;
-    push_notes(&mut out, edit, words)?;
+    let mut out = print_changed(alloc, edit, ranges)?;
+    push_notes(&mut out, edit, words, ranges)?;
     Ok(out)
 }
 
 // The lines before those of the notes.
-fn print_changed(alloc: Global, edit: &SyntaxEdit) -> Result<String, AllocError>
+fn print_changed(alloc: Global, edit: &SyntaxEdit, ranges: bool) -> Result<String, AllocError>
     ensures { let new = text (subtree edit.now.new_root) in
-        IfOk result (λ s. string_bytes s ≡ edit_text new (paths_of edit.now.changed) []) }
+        IfOk result (λ s. string_bytes s ≡ edit_text new (places_of ranges edit.now.changed) []) }
 {
     let text = edit.new_root().text(alloc)?;
     let mut out = String::from_str(alloc, "text \"")?;
     push_escaped(&mut out, &text)?;
     out.push_str("\"\nchanged")?;
-    push_paths(&mut out, edit.changed_elements())?;
+    push_places(&mut out, edit.changed_elements(), ranges)?;
     out.push('\n')?;
     Ok(out)
 }
 
-fn push_notes(out: &mut String, edit: &SyntaxEdit, words: &[Word]) -> Result<(), AllocError>
-    ensures { let notes = map (note_shown edit.now) words.now in
+fn push_notes(
+    out: &mut String,
+    edit: &SyntaxEdit,
+    words: &[Word],
+    ranges: bool,
+) -> Result<(), AllocError>
+    ensures { let notes = map (note_shown ranges edit.now) words.now in
         OnOk result (string_bytes out.new ≡ string_bytes out.old ++ flat_map note_text notes) }
 {
     for word in words {
-        push_note(out, edit, word)?;
+        push_note(out, edit, word, ranges)?;
     }
     Ok(())
 }
 
-fn push_note(out: &mut String, edit: &SyntaxEdit, word: &Word) -> Result<(), AllocError>
-    ensures { OnOk result (string_bytes out.new ≡ string_bytes out.old ++ note_text (note_shown edit.now word.now)) }
+fn push_note(
+    out: &mut String,
+    edit: &SyntaxEdit,
+    word: &Word,
+    ranges: bool,
+) -> Result<(), AllocError>
+    ensures { OnOk result
+        (string_bytes out.new ≡ string_bytes out.old ++ note_text (note_shown ranges edit.now word.now)) }
 {
     out.push_str("note ")?;
     out.push_str(&word.text)?;
-    push_paths(out, edit.find_annotation(word.annotation))?;
+    push_places(out, edit.find_annotation(word.annotation), ranges)?;
     out.push('\n')
 }
 
 // Each after one space.
-fn push_paths(out: &mut String, elements: &[SyntaxElement]) -> Result<(), AllocError>
-    ensures { OnOk result (string_bytes out.new ≡ string_bytes out.old ++ paths_text (paths_of elements.now)) }
+fn push_places(
+    out: &mut String,
+    elements: &[SyntaxElement],
+    ranges: bool,
+) -> Result<(), AllocError>
+    ensures { OnOk result
+        (string_bytes out.new ≡ string_bytes out.old ++ places_text (places_of ranges elements.now)) }
 {
     for element in elements {
         out.push(' ')?;
-        push_path(out, element.slots())?;
+        push_place(out, element, ranges)?;
     }
     Ok(())
+}
+
+fn push_place(out: &mut String, element: &SyntaxElement, ranges: bool) -> Result<(), AllocError>
+    ensures { OnOk result (string_bytes out.new ≡ string_bytes out.old ++ place_of ranges element.now) }
+{
+    push_path(out, element.slots())?;
+    if !ranges {
+        return Ok(());
+    }
+    let (start, end) = (element.text_start(), element.text_end());
+    write!(out, "@{start}..{end}")
 }
 
 // The slots with `/` between them, the root as `.`.
@@ -82,4 +112,54 @@ fn push_path(out: &mut String, path: &[usize]) -> Result<(), AllocError>
         write!(out, "/{slot}")?;
     }
     Ok(())
+}
+
+/// The lines of what is shown besides: the edits of the old text, then the new tree.
+pub(crate) fn push_shown(
+    alloc: Global,
+    out: &mut String,
+    shown: &Shown,
+    new: &GreenNode,
+) -> Result<(), AllocError>
+    ensures { OnOk result
+        (string_bytes out.new ≡ string_bytes out.old ++ shown_text (showing_of shown.now) (branch_tree new.now)) }
+{
+    if let Some(edits) = &shown.edits {
+        push_edits(out, edits)?;
+    }
+    if shown.details.tree {
+        push_tree(alloc, out, &shown.names, new)?;
+    }
+    Ok(())
+}
+
+fn push_edits(out: &mut String, edits: &TextEdits) -> Result<(), AllocError>
+    ensures { OnOk result (string_bytes out.new ≡ string_bytes out.old ++ flat_map edit_line edits.now) }
+{
+    for edit in edits.as_slice() {
+        let (start, end) = (edit.start, edit.end);
+        write!(out, "edit {start} {end} \"")?;
+        push_escaped(out, &edit.text)?;
+        out.push_str("\"\n")?;
+    }
+    Ok(())
+}
+
+fn push_tree(
+    alloc: Global,
+    out: &mut String,
+    names: &KindNames,
+    new: &GreenNode,
+) -> Result<(), AllocError>
+    ensures { OnOk result
+        (string_bytes out.new ≡ string_bytes out.old ++ tree_line names.now (branch_tree new.now)) }
+{
+    let expression = match write_tree_with(alloc, new, names) {
+        Ok(expression) => expression,
+        Err(WriteError::NoName(_)) => return Ok(()),
+        Err(WriteError::Memory) => return Err(AllocError),
+    };
+    out.push_str("tree ")?;
+    out.push_str(&expression)?;
+    out.push('\n')
 }

@@ -5,3 +5,4 @@ pub mod TextLines
 pub mod LinesCarried
 pub mod Ending
 pub mod KindsNamed
+pub mod NothingShown

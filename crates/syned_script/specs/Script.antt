@@ -1,9 +1,12 @@
 -- What a script means.
 --     lines_of_parts, lines_in      The lines of a text: what stands before each newline, and the rest, unless that is empty.
---     Outcome                       How a script ends: `Edited`, with the edit and the annotation words, `Refused`, or `BadLine`, with the
---                                   number of the line.
+--     Showing                       What an answer shows besides: what was asked for, the names of kinds, and the edits of the old text,
+--                                   where these were asked for.
+--     Outcome                       How a script ends: `Edited`, with the edit and the annotation words, `Showed`, with what its answer
+--                                   shows besides, `Refused`, or `BadLine`, with the number of the line.
 --     EndRefuses                    Why `finish` does not carry the changes out. With an order the plan comes first, then the order, then
 --                                   the new tree.
+--     AreEditsOf, Shows             Edits of the old text are those of a plan; what is shown besides is what was asked for.
 --     CarriesOut, FinishGives       The edit is what the plan of the editor makes, its text is not too long, and the order, if there is
 --                                   one, is allowed; what `finish` gives of what is edited.
 --     FinishEnds                    How `finish` ends a script: the first line after it that is not blank is bad.
@@ -15,16 +18,22 @@
 --     EndsAt                        Lines end so (`EndsSo`), and the line that ends them has this number.
 --     StopsSo                       Lines without an edit end so in a dialect, unless memory ran out; a refused call at its line.
 --     StopsAtFor, StopsAt           So does a script; in `Syned`.
-use Rattle.std.specs.Prelude.{◌≡◌, ◌⊎◌, ℕ, suc, ◌+◌, ◌==◌, ◌<◌, not, cond, List, [], ◌∷◌, ◌++◌, length, Option, Some, None, IfSome, MatchOption, MatchBool}
+use Rattle.std.specs.Prelude.{◌≡◌, ◌⊎◌, ℕ, suc, ◌+◌, ◌==◌, ◌<◌, true, false, not, cond, List, [], ◌∷◌, ◌++◌, length, Option, Some, None, IfSome, MatchOption, MatchBool}
 use Rattle.std.specs.List.{slice_split, list_all, position_or_len}
+use Rattle.std.specs.Option.{IsSomeAnd}
 use Rattle.syntax_editor.specs.Tree.{text_length}
 use Rattle.syntax_editor.specs.Green.{length_limit}
-use Rattle.syntax_editor.specs.Plan.{Edit, IsPlan, BuildRefuses, Makes}
+use Rattle.syntax_editor.specs.Path.{Path}
+use Rattle.syntax_editor.specs.Places.{ArePlaces}
+use Rattle.syntax_editor.specs.TextPiece.{TextPiece}
+use Rattle.syntax_editor.specs.TextEdits.{text_pieces}
+use Rattle.syntax_editor.specs.Plan.{Plan, Edit, IsPlan, BuildRefuses, Makes}
 use Rattle.syntax_editor.specs.EditError.TheVariants as edit_error
 use Rattle.syntax_editor.specs.ExecuteError.TheVariants as execute_error
 use Rattle.syntax_editor.specs.Schedule.{IsAllowed}
 use Rattle.syntax_editor.specs.ExecuteRefusal.{ExecuteRefuses}
 use Rattle.syntax_editor.specs.Editor.{Editor, plan_of, FinishRefuses}
+use Rattle.tree_text.specs.KindNames.{KindName}
 use Rattle.script_lines.specs.declared.dialect.Dialect.{Dialect}
 use Rattle.script_lines.specs.declared.dialect.Dialect.TheVariants.{Syned}
 use Rattle.script_lines.specs.ScriptLine as line
@@ -34,7 +43,8 @@ use Rattle.syned_script.specs.declared.refusal.Refusal.{Refusal}
 use Rattle.syned_script.specs.declared.refusal.Refusal.TheVariants as refused
 use Rattle.syned_script.specs.declared.stop.Stop.{Stop}
 use Rattle.syned_script.specs.declared.stop.Stop.TheVariants as stop
-use Rattle.syned_script.specs.State.{State, new_state, Editing, Goes, Refuses, IsBad, Steps}
+use Rattle.syned_script.specs.declared.shown.Details.{Details}
+use Rattle.syned_script.specs.State.{State, new_state, asks, Editing, Goes, Refuses, IsBad, Steps}
 
 -- ---- lines
 abbrev pub lines_of_parts : List (List ℕ) → List (List ℕ)
@@ -46,8 +56,14 @@ abbrev pub lines_in : List ℕ → List (List ℕ)
 lines_in text = lines_of_parts (slice_split (λ b. b == 10) text)
 
 -- ---- the end
+pub record Showing : Type 0 where
+  pub details : Details
+  pub kinds : List KindName
+  pub edits : Option (List TextPiece)
+
 pub data Outcome : Type 0 where
   Edited : (edit : Edit) (words : List (List ℕ)) → Outcome
+  Showed : (edit : Edit) (words : List (List ℕ)) (shown : Showing) → Outcome
   Refused : (refusal : Refusal) → Outcome
   BadLine : (number : ℕ) → Outcome
 
@@ -69,8 +85,18 @@ CarriesOut e next edit =
     IsPlan (plan_of e.editor) × IfSome e.order (IsAllowed e.editor.changes)
     × Makes (plan_of e.editor) next edit × (text_length edit.new_root.root < length_limit)
 
+abbrev pub AreEditsOf : Plan → List TextPiece → Type 0
+AreEditsOf p edits = (places : ℕ → Path) → ArePlaces p.mapping p.changes places → edits ≡ text_pieces p.root p.changes places
+
+pub record Shows (s : State) (e : Editing) (shown : Showing) : Type 0 where
+  pub asked : asks e.details ≡ true
+  pub details : shown.details ≡ e.details
+  pub kinds : shown.kinds ≡ s.language.kinds
+  pub edits : MatchBool e.details.edits (IsSomeAnd shown.edits (AreEditsOf (plan_of e.editor))) (shown.edits ≡ None)
+
 abbrev pub FinishGives : State → Editing → Outcome → Type 0
-FinishGives s e (Edited edit words) = CarriesOut e s.next edit × (words ≡ s.words)
+FinishGives s e (Edited edit words) = CarriesOut e s.next edit × (words ≡ s.words) × (asks e.details ≡ false)
+FinishGives s e (Showed edit words shown) = CarriesOut e s.next edit × (words ≡ s.words) × Shows s e shown
 FinishGives s e (Refused reason) = EndRefuses e.editor e.order s.next reason
 FinishGives s e (BadLine number) = ⊥
 
@@ -84,6 +110,7 @@ LineEnds n s line.Finish after o = MatchOption s.editing (o ≡ BadLine n) (λ e
 LineEnds n s call after (Refused reason) = Steps s call (Refuses reason)
 LineEnds n s call after (BadLine number) = (number ≡ n) × Steps s call IsBad
 LineEnds n s call after (Edited edit words) = ⊥
+LineEnds n s call after (Showed edit words shown) = ⊥
 
 abbrev pub Ends : ℕ → State → List (List ℕ) → Outcome → Type 0
 Ends n s [] o = o ≡ BadLine n

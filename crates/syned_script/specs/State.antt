@@ -2,7 +2,8 @@
 -- A script is carried out line by line. What the lines made so far is a state, and a line does one of three things with
 -- it: the script goes on in another state, the call of the line is refused, or the line is bad.
 --
---     Editing                       The editor, and the order of its changes, if a line gave one.
+--     no_details, with_detail, asks  Nothing more to show; one thing more to show; whether there is any.
+--     Editing                       The editor, the order of its changes, if a line gave one, and what the answer shows besides.
 --     Roots, with_root              The root with each name; the same with one more root.
 --     State, new_state              The language of the next line, the number of the next tree, the roots, the annotation words by their
 --                                   first use, and what is edited; the state before the first line, in a dialect.
@@ -19,11 +20,13 @@
 --     KindsStep                     What a line `kinds` does, which comes before any tree.
 --     root_refusal, tree_step       Why a tree becomes no root, if it doesn't: `TooLong` first; what a line `tree` does.
 --     edit_step                     What a line `edit` does: the root is the node's own, or one of a new tree where the node has a parent.
+--     shifted, shift_step           A tree a level further in or out; what a line `indent` or `dedent` does: it makes a tree of one.
 --     record_step, recorded_in      What a call does that records a change; the same, where there may be no such call or no editor.
+--     spaced_step, spaced_in        What a line `spaced` does, with the next tree numbers; the same, where something may be missing.
 --     PairRefuses, PairStep, MapStep  Why a pair of a node and its copy is refused below a parent; what the pair does; what a line `map`
 --                                   does.
 --     with_word, annotation_of      The words after one was used: a new one comes last; the annotation of a word, which counts from 1.
---     note_step, order_step         What a line `note` does, what a line `order` does.
+--     note_step, order_step, show_step  What a line `note` does, what a line `order` does, what a line `show` does.
 --     Steps                         What a line does that does not end the script.
 --
 -- The script
@@ -43,7 +46,7 @@
 -- With `replace R/3 U/0` in line 4 there is no element at `R/3`, so no call: the script is `BadLine 4`. With `delete R`
 -- there is a call, and it is refused: the script is `Refused` with `DeletesRoot`. With a line `edit S A` after `finish`
 -- it is `BadLine 6`; with a comment there it is `Edited`.
-use Rattle.std.specs.Prelude.{◌≡◌, ℕ, suc, ◌<◌, ◌^◌, true, ◌==◌, ◌&&◌, ◌||◌, cond, List, [], ◌∷◌, ◌++◌, Option, Some, None, option_map, option_and_then, is_some, nat_le, MatchOption}
+use Rattle.std.specs.Prelude.{◌≡◌, ℕ, suc, ◌<◌, ◌+◌, ◌^◌, Bool, true, false, ◌==◌, ◌&&◌, ◌||◌, cond, List, [], ◌∷◌, ◌++◌, Option, Some, None, option_map, option_and_then, is_some, nat_le, MatchOption}
 use Rattle.std.specs.Option.{option_map_or}
 use Rattle.std.specs.List.{list_any, position_or_len}
 use Rattle.std.specs.Map.{update}
@@ -51,7 +54,7 @@ use Rattle.std.specs.Str.{bytes_eq}
 use Rattle.syntax_editor.specs.Tree.{SyntaxTree, text_length}
 use Rattle.syntax_editor.specs.Green.{length_limit}
 use Rattle.syntax_editor.specs.TreeIds.{spent}
-use Rattle.syntax_editor.specs.Element.{Element}
+use Rattle.syntax_editor.specs.Element.{Element, subtree}
 use Rattle.syntax_editor.specs.SyntaxElement.{node_of, syntax_at}
 use Rattle.cst_core.specs.declared.element.SyntaxElement.{SyntaxElement}
 use Rattle.syntax_editor.specs.TreeError.{TreeError}
@@ -62,18 +65,38 @@ use Rattle.syntax_editor.specs.PositionForm.{PositionForm, FirstChild}
 use Rattle.syntax_editor.specs.Position.{before, after, last_child_of}
 use Rattle.syntax_editor.specs.RecordCall.{RecordCall, Inserting, InsertingAll, Deleting, Replacing, ReplacingWithMany, DeletingAll, ReplacingAll, refusal}
 use Rattle.syntax_editor.specs.Editor.{Editor, has_parent, edited_root, new_editor, after_call, Maps, registered_with}
+use Rattle.syntax_editor.specs.Indentation.{indented, dedented}
+use Rattle.syntax_editor.specs.Spacing.{numbers_needed}
+use Rattle.syntax_editor.specs.SpacingCalls.{spaced_insert, spacing_refusal}
 use Rattle.list_removal.specs.Removal.{removal}
 use Rattle.tree_text.specs.KindNames.{KindName, IsTaken, is_name, name_in, next_kind}
 use Rattle.script_lines.specs.Dialect.{Language, new_language}
 use Rattle.script_lines.specs.declared.dialect.Dialect.{Dialect}
+use Rattle.script_lines.specs.declared.detail.Detail.{Detail}
+use Rattle.script_lines.specs.declared.detail.Detail.TheVariants as detail
+use Rattle.script_lines.specs.declared.line.Shift.{Shift}
+use Rattle.script_lines.specs.declared.line.Shift.TheVariants.{Indent, Dedent}
 use Rattle.script_lines.specs.ScriptLine as line
 use Rattle.script_lines.specs.ScriptLine.{Ref, Gap, ScriptLine, First, Last, Before, After}
+use Rattle.syned_script.specs.declared.shown.Details.{Details}
 use Rattle.syned_script.specs.declared.refusal.Refusal.{Refusal}
 use Rattle.syned_script.specs.declared.refusal.Refusal.TheVariants as refused
+
+abbrev pub no_details : Details
+no_details = record { edits = false; tree = false; ranges = false }
+
+abbrev pub with_detail : Detail → Details → Details
+with_detail detail.Edits d = record d { edits = true }
+with_detail detail.Tree d = record d { tree = true }
+with_detail detail.Ranges d = record d { ranges = true }
+
+abbrev pub asks : Details → Bool
+asks d = d.edits || d.tree || d.ranges
 
 pub record Editing : Type 0 where
   pub editor : Editor
   pub order : Option (List ℕ)
+  pub details : Details
 
 abbrev pub Roots : Type 0
 Roots = List ℕ → Option Element
@@ -176,13 +199,21 @@ begun s name node = record {
   next = cond (has_parent node) (suc s.next) s.next;
   roots = with_root name (edited_root s.next node) s.roots;
   words = s.words;
-  editing = Some (record { editor = new_editor s.next node; order = None });
+  editing = Some (record { editor = new_editor s.next node; order = None; details = no_details });
 }
 
 abbrev pub edit_step : State → List ℕ → Option Element → Step
 edit_step s name None = IsBad
 edit_step s name (Some node) = cond (is_some s.editing || is_some (s.roots name)) IsBad
     (cond (has_parent node && s.next == spent) (Refuses (refused.Tree NoTreeNumber)) (Goes (begun s name node)))
+
+abbrev pub shifted : Shift → SyntaxTree → SyntaxTree
+shifted Indent t = indented 1 t
+shifted Dedent t = dedented 1 t
+
+abbrev pub shift_step : State → Shift → List ℕ → Option Element → Step
+shift_step s shift name None = IsBad
+shift_step s shift name (Some node) = tree_step s name (shifted shift (subtree node))
 
 abbrev pub record_step : State → RecordCall → Editing → Step
 record_step s call e =
@@ -192,6 +223,16 @@ record_step s call e =
 abbrev pub recorded_in : State → Option RecordCall → Step
 recorded_in s None = IsBad
 recorded_in s (Some call) = option_map_or (record_step s call) s.editing IsBad
+
+abbrev spaced_step : State → PositionForm → List SyntaxElement → Editing → Step
+spaced_step s at es e =
+    let editor = after_call (spaced_insert s.next at es) e.editor in
+    option_map_or (λ r. Refuses (refused.Record r)) (spacing_refusal e.editor.root s.next at es)
+    (Goes (record (with_editor editor e s) { next = s.next + numbers_needed at es }))
+
+abbrev pub spaced_in : State → Option PositionForm → Option (List SyntaxElement) → Step
+spaced_in s (Some at) (Some es) = option_map_or (spaced_step s at es) s.editing IsBad
+spaced_in s _ _ = IsBad
 
 abbrev pub PairRefuses : Element → Element × Element → Refusal → Type 0
 PairRefuses parent pair (refused.Map map_error.Memory) = ⊥
@@ -231,6 +272,10 @@ abbrev pub order_step : State → List ℕ → Step
 order_step s order = option_map_or (λ e. cond (is_some e.order) IsBad
     (Goes (record s { editing = Some (record e { order = Some order }) }))) s.editing IsBad
 
+abbrev pub show_step : State → Detail → Step
+show_step s detail =
+    option_map_or (λ e. Goes (record s { editing = Some (record e { details = with_detail detail e.details }) })) s.editing IsBad
+
 abbrev pub Steps : State → ScriptLine → Step → Type 0
 Steps s line.Blank step = step ≡ Goes s
 Steps s (line.Kinds names) step = KindsStep s names step
@@ -240,5 +285,8 @@ Steps s (line.Map parent input output) step =
     MapStep s (node_in s.roots parent) (node_in s.roots input) (node_in s.roots output) step
 Steps s (line.Note word element) step = step ≡ note_step s word (element_in s.roots element)
 Steps s (line.Order order) step = step ≡ order_step s order
+Steps s (line.Show detail) step = step ≡ show_step s detail
+Steps s (line.Spaced at payload) step = step ≡ spaced_in s (position_in s.roots at) (elements_in s.roots payload)
+Steps s (line.Shifted shift name node) step = step ≡ shift_step s shift name (node_in s.roots node)
 Steps s line.Finish step = ⊥
 Steps s call step = step ≡ recorded_in s (call_in s.roots call)

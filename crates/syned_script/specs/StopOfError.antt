@@ -1,7 +1,9 @@
 -- Why a script ends at a line, by the error of a call.
---     stop_of_line, stop_of_tree, stop_of_map, stop_of_record, stop_of_edit, stop_of_execute  Why a script ends, by the error of the call.
+--     stop_of_line, stop_of_tree, stop_of_indent, stop_of_map, stop_of_record, stop_of_edit, stop_of_execute  Why a script ends, by the error of the call.
 use Rattle.syntax_editor.specs.TreeError.{TreeError}
 use Rattle.syntax_editor.specs.TreeError.TheVariants as tree_error
+use Rattle.syntax_editor.specs.IndentError.{IndentError}
+use Rattle.syntax_editor.specs.IndentError.TheVariants as indent_error
 use Rattle.syntax_editor.specs.MapError.{MapError}
 use Rattle.syntax_editor.specs.MapError.TheVariants as map_error
 use Rattle.syntax_editor.specs.declared.error.RecordError.{RecordError}
@@ -24,6 +26,11 @@ stop_of_line line_error.Memory = Memory
 abbrev pub stop_of_tree : TreeError → Stop
 stop_of_tree tree_error.Memory = Memory
 stop_of_tree e = Refused (Tree e)
+
+abbrev pub stop_of_indent : IndentError → Stop
+stop_of_indent indent_error.TooLong = Refused (Tree tree_error.TooLong)
+stop_of_indent indent_error.NoTreeNumber = Refused (Tree tree_error.NoTreeNumber)
+stop_of_indent _ = Memory
 
 abbrev pub stop_of_map : MapError → Stop
 stop_of_map map_error.Memory = Memory

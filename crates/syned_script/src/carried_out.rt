@@ -1,25 +1,33 @@
 //! A script's lines in order: what they record, and the edit that is made of it.
-ghost use Rattle.std.specs.Prelude.{◌≡◌, ◌<◌, ◌≤◌, true, false, not, drop, length, IfOk, IfErr, OnOk, IfSome, IfNone};
+ghost use Rattle.std.specs.Prelude.{◌≡◌, ◌<◌, ◌≤◌, true, false, not, drop, length, IfOk, IfErr, OnOk, IfSome, IfNone, None, option_map};
 ghost use Rattle.std.specs.List.{list_all, position_or_len};
 ghost use Rattle.script_lines.specs.Line.{is_blank};
 ghost use Rattle.syned_script.specs.State as state;
-ghost use Rattle.syned_script.specs.State.{new_state};
+ghost use Rattle.syned_script.specs.State.{new_state, asks};
+ghost use Rattle.syntax_editor.specs.Tree.{text_length};
+ghost use Rattle.syntax_editor.specs.Green.{length_limit};
+ghost use Rattle.syntax_editor.specs.Schedule.{IsAllowed};
+ghost use Rattle.syntax_editor.specs.Plan.{Makes};
+ghost use Rattle.syntax_editor.specs.Editor.{plan_of};
 ghost use Rattle.syned_script.specs.Script.{lines_in, Edited, FinishGives, CarriesOut, EndRefuses};
+ghost use Rattle.syned_script.specs.ShownValue.{outcome_of, showing_of};
 ghost use Rattle.syned_script.specs.Script.{Means, MeansFor, StopsSo, StopsAt, StopsAtFor};
 ghost use Rattle.syned_script.specs.inner.Stops.{StopsFor};
 ghost use Rattle.syned_script.specs.inner.SessionState.{editing_of, state_of};
-ghost use Rattle.syned_script.specs.inner.Run.{texts_in, TextGives, Reached, EndIsGood, EndStops, FinishStops};
+ghost use Rattle.syned_script.specs.inner.Run.{texts_in, TextGives, Reached, EndIsGood, EndStops, FinishStops, GivesEdits, RunStops};
 ghost use Rattle.syned_script.specs.declared.stop.Stop.TheVariants.{Memory};
 
 use crate::fault::Reason;
 use crate::lines::lines_in;
-use crate::session::{Editing, Session};
+use crate::session::{Editing, Parts, Session};
+use crate::shown::{Details, Shown};
 use crate::stop::{Stop, Stopped};
 use crate::words::Words;
 use cst_core::TreeIds;
 use script_lines::{Dialect, Line, is_blank, read_line};
-use std::alloc::Global;
-use syntax_editor::{SyntaxEdit, SyntaxEditor};
+use std::alloc::{AllocError, Global};
+use syntax_editor::{EditPlan, OnePassEngine, SyntaxEdit, SyntaxEditor, TextEdits};
+use tree_text::KindNames;
 
 /// What a script makes that is carried out to its end.
 #[derive(Drop)]
@@ -28,6 +36,8 @@ pub struct CarriedOut {
     pub edit: SyntaxEdit,
     /// The annotation words of the script.
     pub words: Words,
+    /// What its answer shows besides, where it asks for that. A script of the dialect `Syned` never does.
+    pub shown: Option<Shown>,
 }
 
 /// What a script has recorded where it comes to `finish`.
@@ -46,6 +56,7 @@ pub struct Recorded {
 /// Carries a script out to its end, or says at which line it ends, and why.
 pub fn carry_out(alloc: Global, script: &str) -> Result<CarriedOut, Stopped>
     ensures ok { IfOk result (λ done. Means script.now (Edited done.edit done.words)) }
+    ensures nothing { IfOk result (λ done. done.shown ≡ None) }
     ensures err { IfErr result (λ stopped. StopsAt script.now stopped.line stopped.stop) }
 {
     carry_out_for(alloc, Dialect::Syned, script)
@@ -53,7 +64,8 @@ pub fn carry_out(alloc: Global, script: &str) -> Result<CarriedOut, Stopped>
 
 /// `carry_out` of a script in a dialect.
 pub fn carry_out_for(alloc: Global, dialect: Dialect, script: &str) -> Result<CarriedOut, Stopped>
-    ensures ok { IfOk result (λ done. MeansFor dialect script.now (Edited done.edit done.words)) }
+    ensures ok { IfOk result
+        (λ done. MeansFor dialect script.now (outcome_of done.edit done.words done.shown)) }
     ensures err { IfErr result (λ stopped. StopsAtFor dialect script.now stopped.line stopped.stop) }
 {
     let mut session = Session::new(alloc, dialect);
@@ -68,7 +80,12 @@ pub fn carry_out_for(alloc: Global, dialect: Dialect, script: &str) -> Result<Ca
 pub fn record_script(alloc: Global, dialect: Dialect, script: &str) -> Option<Recorded> {
     let mut session = Session::new(alloc, dialect);
     go_through(alloc, &mut session, script).ok()?;
-    let (Editing { editor, order }, ids, words) = session.into_editing().ok()?;
+    let Parts {
+        editing: Editing { editor, order, .. },
+        ids,
+        words,
+        ..
+    } = session.into_parts().ok()?;
     Some(Recorded {
         editor,
         order,
@@ -165,46 +182,88 @@ fn first_not_blank(lines: &[&str]) -> Option<usize>
 
 fn finish(alloc: Global, session: Session) -> Result<CarriedOut, Stop>
     ensures done { IfOk result (λ done. (e : state.Editing) × ((state_of session).editing ≡ Some e)
-        × FinishGives (state_of session) e (Edited done.edit done.words)) }
+        × FinishGives (state_of session) e (outcome_of done.edit done.words done.shown)) }
     ensures stops { IfErr result (FinishStops (state_of session)) }
 {
-    let (editing, mut ids, words) = session.into_editing()?;
-    let edit = carry_changes_out(alloc, editing, &mut ids)?;
-    Ok(CarriedOut { edit, words })
+    let Parts {
+        editing,
+        mut ids,
+        words,
+        language,
+    } = session.into_parts()?;
+    let details = editing.details;
+    let (edit, edits) = carry_changes_out(alloc, editing, &mut ids)?;
+    let shown = shown_besides(details, language.names, edits);
+    Ok(CarriedOut { edit, words, shown })
 }
 
-// Carries the changes out, in the order of the script if there is one.
-fn carry_changes_out(alloc: Global, editing: Editing, ids: &mut TreeIds) -> Result<SyntaxEdit, Stop>
-    ensures done { IfOk result (CarriesOut (editing_of editing) ids.old) }
+fn shown_besides(details: Details, names: KindNames, edits: Option<TextEdits>) -> Option<Shown>
+    ensures nothing { IfNone result (asks details ≡ false) }
+    ensures some { IfSome result (λ s. asks details ≡ true) }
+    ensures is { IfSome result
+        (λ s. showing_of s ≡ record { details = details; kinds = names; edits = edits }) }
+{
+    if !details.is_any() {
+        return None;
+    }
+    Some(Shown {
+        details,
+        names,
+        edits,
+    })
+}
+
+// Carries the changes out, in the order of the script if there is one. Beside the edit it gives the edits of the old text, where these are to
+// be shown.
+fn carry_changes_out(
+    alloc: Global,
+    editing: Editing,
+    ids: &mut TreeIds,
+) -> Result<(SyntaxEdit, Option<TextEdits>), Stop>
+    ensures done { IfOk result (λ r. CarriesOut (editing_of editing) ids.old r.0) }
+    ensures edits { IfOk result (λ r. GivesEdits editing.details (plan_of editing.editor) r.1) }
     ensures stops { IfErr result (StopsFor ⊥ (EndRefuses editing.editor (editing_of editing).order ids.old)) }
 {
-    let Editing { editor, order } = editing;
-    match order {
-        None => finish_at_once(alloc, editor, ids),
-        Some(order) => execute(alloc, editor, ids, &order),
-    }
-}
-
-fn finish_at_once(
-    alloc: Global,
-    editor: SyntaxEditor,
-    ids: &mut TreeIds,
-) -> Result<SyntaxEdit, Stop>
-    ensures done { IfOk result (CarriesOut (record { editor = editor; order = None }) ids.old) }
-    ensures stops { IfErr result (StopsFor ⊥ (EndRefuses editor None ids.old)) }
-{
-    Ok(editor.finish(alloc, ids)?)
-}
-
-fn execute(
-    alloc: Global,
-    editor: SyntaxEditor,
-    ids: &mut TreeIds,
-    order: &[usize],
-) -> Result<SyntaxEdit, Stop>
-    ensures done { IfOk result (CarriesOut (record { editor = editor; order = Some order.now }) ids.old) }
-    ensures stops { IfErr result (StopsFor ⊥ (EndRefuses editor (Some order.now) ids.old)) }
-{
+    let Editing {
+        editor,
+        order,
+        details,
+    } = editing;
     let plan = editor.plan(alloc)?;
-    Ok(plan.execute(alloc, ids, order)?)
+    let edits = edits_to_show(alloc, details, &plan)?;
+    let edit = run(alloc, ids, &plan, order)?;
+    Ok((edit, edits))
+}
+
+fn edits_to_show(
+    alloc: Global,
+    details: Details,
+    plan: &EditPlan,
+) -> Result<Option<TextEdits>, AllocError>
+    ensures { IfOk result (GivesEdits details plan.now) }
+{
+    if !details.edits {
+        return Ok(None);
+    }
+    let edits = plan.text_edits(alloc)?;
+    // For the proof: what the plan promises of all edits holds of these.
+    let _ = edits.as_slice();
+    Ok(Some(edits))
+}
+
+fn run(
+    alloc: Global,
+    ids: &mut TreeIds,
+    plan: &EditPlan,
+    order: Option<Vec<usize>>,
+) -> Result<SyntaxEdit, Stop>
+    ensures ok { IfOk result (Makes plan.now ids.old) }
+    ensures short { IfOk result (λ e. text_length e.new_root.root < length_limit) }
+    ensures allowed { OnOk result (IfSome order (λ v. IsAllowed plan.now.changes v.items)) }
+    ensures stops { IfErr result (StopsFor ⊥ (RunStops plan.now (option_map (λ v. v.items) order) ids.old)) }
+{
+    match order {
+        None => Ok(plan.run_with(alloc, ids, &mut OnePassEngine::new(alloc))?),
+        Some(order) => Ok(plan.execute(alloc, ids, &order)?),
+    }
 }

@@ -13,6 +13,8 @@ mod nearest;
 mod refusal;
 mod roots;
 mod session;
+mod shifted;
+mod shown;
 mod stop;
 mod words;
 
@@ -20,5 +22,6 @@ pub use carried_out::{CarriedOut, Recorded, carry_out, carry_out_for, record_scr
 pub use fault::{Fault, Reason};
 pub use refusal::Refusal;
 pub use script_lines::{Dialect, SCRIPT_LIMIT};
+pub use shown::{Details, Shown};
 pub use stop::{Stop, Stopped};
 pub use words::{Word, Words};

@@ -3,7 +3,7 @@ ghost use Rattle.std.specs.Prelude.{◌≡◌, ◌≢◌, ◌↔◌, IsTrue, tru
 ghost use Rattle.script_lines.specs.LineValue.{ref_of, refs_of, gap_of, line_of, texts_of};
 ghost use Rattle.script_lines.specs.ScriptLine as says;
 ghost use Rattle.cst_core.specs.Green.{branch_tree};
-ghost use Rattle.syned_script.specs.State.{new_state};
+ghost use Rattle.syned_script.specs.State.{new_state, no_details};
 ghost use Rattle.syned_script.specs.inner.Stops.{LineGives, StopsFor};
 ghost use Rattle.syned_script.specs.inner.SessionState.{editing_of, state_of};
 ghost use Rattle.syned_script.specs.declared.fault.Reason.TheVariants.{NoEdit};
@@ -14,10 +14,12 @@ use crate::fault::Reason;
 use crate::kinds::name_kinds;
 use crate::mapped::map_pair;
 use crate::roots::Roots;
+use crate::shifted::shifted;
+use crate::shown::Details;
 use crate::stop::Stop;
 use crate::words::Words;
 use cst_core::{GreenNode, SyntaxKind, SyntaxNode, TreeIds};
-use script_lines::{Dialect, Field, Language, Line, Name, Reference, WrittenPosition};
+use script_lines::{Detail, Dialect, Field, Language, Line, Name, Reference, Shift, WrittenPosition};
 use std::alloc::Global;
 use syntax_editor::SyntaxEditor;
 
@@ -32,11 +34,21 @@ pub(crate) struct Session {
     editing: Option<Editing>,
 }
 
-/// The editor of a script, and the order of its changes, where the script says one.
+/// The editor of a script, the order of its changes, where the script says one, and what its answer shows besides.
 #[derive(Drop)]
 pub(crate) struct Editing {
     pub(crate) editor: SyntaxEditor,
     pub(crate) order: Option<Vec<usize>>,
+    pub(crate) details: Details,
+}
+
+/// What a script has come to where it ends.
+#[derive(Drop)]
+pub(crate) struct Parts {
+    pub(crate) editing: Editing,
+    pub(crate) ids: TreeIds,
+    pub(crate) words: Words,
+    pub(crate) language: Language,
 }
 
 impl Session {
@@ -79,6 +91,9 @@ impl Session {
             Line::Note { word, element } => self.note(word, &element),
             Line::Remove { element, separator } => self.remove(&element, separator),
             Line::Order { order } => self.order(order),
+            Line::Show { detail } => self.show(detail),
+            Line::Spaced { at, payload } => self.insert_spaced(&at, &payload),
+            Line::Shifted { shift, name, node } => self.add_shifted(shift, name, &node),
             Line::Finish => Err(Stop::bad(0, Reason::NoFinish)),
         }
     }
@@ -98,20 +113,26 @@ impl Session {
         }
     }
 
-    /// What is edited, with the source of tree numbers and the annotation words; `Bad` where there is nothing.
-    pub(crate) fn into_editing(self) -> Result<(Editing, TreeIds, Words), Stop>
-        ensures editing { IfOk result (λ r. (state_of self).editing ≡ Some (editing_of r.0)) }
-        ensures others { IfOk result (λ r. (r.1 ≡ self.ids) × (r.2 ≡ self.words)) }
+    /// What the script has come to; `Bad` where nothing is edited.
+    pub(crate) fn into_parts(self) -> Result<Parts, Stop>
+        ensures editing { IfOk result (λ r. (state_of self).editing ≡ Some (editing_of r.editing)) }
+        ensures others { IfOk result (λ r. (r.ids ≡ self.ids) × (r.words ≡ self.words) × (r.language ≡ self.language)) }
         ensures nothing { IfErr result (StopsFor ((state_of self).editing ≡ None) (λ r. ⊥)) }
     {
         let Session {
+            language,
             ids,
             words,
             editing,
             ..
         } = self;
         let editing = editing.ok_or(Stop::bad(0, Reason::NoEdit))?;
-        Ok((editing, ids, words))
+        Ok(Parts {
+            editing,
+            ids,
+            words,
+            language,
+        })
     }
 
     fn name_kinds(&mut self, names: &[Field<'_>]) -> Result<(), Stop>
@@ -144,6 +165,23 @@ impl Session {
         self.roots.add(self.alloc, name, root)
     }
 
+    fn add_shifted(
+        &mut self,
+        shift: Shift,
+        name: Name<'_>,
+        node: &Reference<'_>,
+    ) -> Result<(), Stop>
+        ensures { LineGives (state_of self.old) (says.Shifted shift name.entry.text.now (ref_of node.now))
+            result (state_of self.new) }
+    {
+        if self.roots.is_taken(name) {
+            return Err(Stop::bad(name.at(), Reason::NameTaken));
+        }
+        let node = self.roots.node(self.alloc, node)?;
+        let root = shifted(self.alloc, shift, &node, &mut self.ids)?;
+        self.roots.add(self.alloc, name, root)
+    }
+
     fn edit(&mut self, name: Name<'_>, node: &Reference<'_>) -> Result<(), Stop>
         ensures { LineGives (state_of self.old) (says.Edit name.entry.text.now (ref_of node.now))
             result (state_of self.new) }
@@ -162,11 +200,13 @@ impl Session {
 
     // Edits from now on.
     fn begin(&mut self, editor: SyntaxEditor)
-        ensures { self.new ≡ record self.old { editing = Some (record { editor = editor; order = None }) } }
+        ensures { self.new ≡ record self.old
+            { editing = Some (record { editor = editor; order = None; details = no_details }) } }
     {
         self.editing = Some(Editing {
             editor,
             order: None,
+            details: Details::none(),
         });
     }
 
@@ -204,6 +244,31 @@ impl Session {
                 at,
                 payload,
             ),
+            None => Err(no_edit()),
+        }
+    }
+
+    fn insert_spaced(
+        &mut self,
+        at: &WrittenPosition<'_>,
+        payload: &[Reference<'_>],
+    ) -> Result<(), Stop>
+        ensures { LineGives (state_of self.old) (says.Spaced (gap_of at.now) (map ref_of payload.now))
+            result (state_of self.new) }
+    {
+        match &mut self.editing {
+            Some(editing) => {
+                let at = self.roots.position(self.alloc, at)?;
+                let elements = self.roots.elements(self.alloc, payload)?;
+                Ok(
+                    editing.editor.insert_all_with_whitespace(
+                        self.alloc,
+                        &mut self.ids,
+                        at,
+                        elements,
+                    )?,
+                )
+            }
             None => Err(no_edit()),
         }
     }
@@ -294,6 +359,19 @@ impl Session {
     {
         match &mut self.editing {
             Some(editing) => editing.set_order(order),
+            None => Err(no_edit()),
+        }
+    }
+
+    // What the answer shows besides.
+    fn show(&mut self, detail: Detail) -> Result<(), Stop>
+        ensures { LineGives (state_of self.old) (says.Show detail) result (state_of self.new) }
+    {
+        match &mut self.editing {
+            Some(editing) => {
+                editing.details.add(detail);
+                Ok(())
+            }
             None => Err(no_edit()),
         }
     }

@@ -8,7 +8,7 @@ use crate::refusal::Refusal;
 use cst_core::TreeError;
 use script_lines::LineError;
 use std::alloc::{AllocError, AllocFailed};
-use syntax_editor::{EditError, ExecuteError, MapError, RecordError};
+use syntax_editor::{EditError, ExecuteError, IndentError, MapError, RecordError};
 
 /// Why a script ends at a line.
 #[derive(Debug, Drop)]
@@ -89,6 +89,23 @@ impl From<TreeError> for Stop {
         match error {
             TreeError::Memory => Stop::Memory,
             error => Stop::Refused(Refusal::Tree(error)),
+        }
+    }
+}
+
+impl From<IndentError> for Stop {
+    ghost use Rattle.std.specs.Prelude.{◌≡◌};
+    ghost use Rattle.syned_script.specs.StopOfError.{stop_of_indent};
+
+    ghost from_gives = { λ error stop. stop ≡ stop_of_indent error };
+
+    // What is not refused as a tree is comes of no call that a script makes.
+    fn from(error: IndentError) -> Stop {
+        match error {
+            IndentError::TooLong => Stop::Refused(Refusal::Tree(TreeError::TooLong)),
+            IndentError::NoTreeNumber => Stop::Refused(Refusal::Tree(TreeError::NoTreeNumber)),
+            IndentError::LevelTooLarge | IndentError::NotYounger | IndentError::Memory =>
+                Stop::Memory,
         }
     }
 }

@@ -1,6 +1,7 @@
 -- What is taken from the words that are left of a line.
 --     IsNamed         a word is a name
 --     IsKindName      a word is a kind's name, where kinds are given names
+--     IsDetail        a word is the name of what an answer shows
 --     IsTaken         the first word says this, and these are left
 --     Begins          the first word says this, whatever is left
 --     IsLast          the one word says this
@@ -8,12 +9,17 @@ use Rattle.std.specs.Prelude.{◌≡◌, ℕ, List, [], ◌∷◌, Some}
 use Rattle.cst_core.specs.SyntaxKind.{SyntaxKind}
 use Rattle.tree_text.specs.KindNames.{KindName, name_in}
 use Rattle.script_lines.specs.Name.{IsName}
+use Rattle.script_lines.specs.Line.{detail_name}
+use Rattle.script_lines.specs.declared.detail.Detail.{Detail}
 
 abbrev pub IsNamed : List ℕ → List ℕ → Type 0
 IsNamed word name = (word ≡ name) × IsName name
 
 abbrev pub IsKindName : List KindName → List ℕ → SyntaxKind → Type 0
 IsKindName given word kind = name_in given kind.0 ≡ Some word
+
+abbrev pub IsDetail : List ℕ → Detail → Type 0
+IsDetail word detail = detail_name detail ≡ word
 
 pub record IsTaken {A : Type 0} (Says : List ℕ → A → Type 0) (all left : List (List ℕ)) (a : A) : Type 0 where
   pub word : List ℕ

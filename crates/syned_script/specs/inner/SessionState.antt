@@ -14,7 +14,7 @@ abbrev pub roots_of : code.Roots → Roots
 roots_of roots = λ name. get_by_text roots.roots name
 
 abbrev pub editing_of : code_editing.Editing → Editing
-editing_of e = record { editor = e.editor; order = option_map (λ v. v.items) e.order }
+editing_of e = record { editor = e.editor; order = option_map (λ v. v.items) e.order; details = e.details }
 
 abbrev pub state_of : Session → State
 state_of s = record {

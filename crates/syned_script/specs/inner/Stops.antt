@@ -1,20 +1,23 @@
 -- What the functions give that carry out a line, and what a stop says there.
 --     StopsFor            one thing if the line is bad, another of the refusal if its call is refused, nothing if memory ran out
 --     NotThere            the line is bad, and this is why: something that it names is not there
+--     ShiftStops          why no root is made of this tree under a number
 --     IsRecorded          the line has a call, and an editor made it
 --     IsRecordRefusal     its call is refused so
 --     RecordStops         why it was not made
 --     RecordGives         what the function gives that makes it
 --     LineStops           why a line was not carried out
 --     LineGives           what the function gives that carries it out
-use Rattle.std.specs.Prelude.{◌≡◌, Option, Some, None, Result, Ok, Err}
+use Rattle.std.specs.Prelude.{◌≡◌, ℕ, Option, Some, None, Result, Ok, Err}
+use Rattle.syntax_editor.specs.Tree.{SyntaxTree}
+use Rattle.syntax_editor.specs.TreeError.{TreeError}
 use Rattle.syntax_editor.specs.RecordCall.{RecordCall, refusal}
 use Rattle.syntax_editor.specs.declared.error.RecordError.{RecordError}
 use Rattle.syntax_editor.specs.Editor.{Editor, Takes, Records}
 use Rattle.script_lines.specs.ScriptLine.{ScriptLine}
-use Rattle.syned_script.specs.State.{State, Goes, Refuses, IsBad, Steps}
+use Rattle.syned_script.specs.State.{State, Goes, Refuses, IsBad, Steps, root_refusal}
 use Rattle.syned_script.specs.declared.refusal.Refusal.{Refusal}
-use Rattle.syned_script.specs.declared.refusal.Refusal.TheVariants.{Record}
+use Rattle.syned_script.specs.declared.refusal.Refusal.TheVariants.{Record, Tree}
 use Rattle.syned_script.specs.declared.stop.Stop.{Stop}
 use Rattle.syned_script.specs.declared.stop.Stop.TheVariants.{Bad, Refused, Memory}
 
@@ -25,6 +28,9 @@ StopsFor P Q Memory = Unit {0}
 
 abbrev pub NotThere : {A : Type 0} → Option A → Stop → Type 0
 NotThere o stop = StopsFor (o ≡ None) (λ r. ⊥) stop
+
+abbrev pub ShiftStops : ℕ → SyntaxTree → Stop → Type 0
+ShiftStops next t stop = StopsFor ⊥ (λ r. (e : TreeError) × (r ≡ Tree e) × (root_refusal next t ≡ Some e)) stop
 
 abbrev pub IsRecorded : Option RecordCall → Editor → Editor → Type 0
 IsRecorded o before after = (call : RecordCall) × (o ≡ Some call) × Takes before call × Records call before after

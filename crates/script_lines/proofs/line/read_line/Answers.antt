@@ -6,7 +6,7 @@ use Rattle.script_lines.specs.LineValue.{language_of, line_of}
 use Rattle.script_lines.specs.Refusals.{Refuses}
 use Rattle.script_lines.specs.declared.error.LineError.{LineError}
 use Rattle.script_lines.specs.declared.line.Line.{Line}
-use Rattle.script_lines.specs.inner.Commands.{IsRead}
+use Rattle.script_lines.specs.inner.Commands.{IsRead, IsReadIn}
 use Rattle.script_lines.specs.inner.Word.{IsFirstWord}
 use Rattle.script_lines.proofs.OtherWords.{no-line}
 use Rattle.script_lines.proofs.Refusing.{bad-refuses}
@@ -17,6 +17,12 @@ read : (lang : Language) (text : List ℕ) (all behind : List (List ℕ)) (first
     → IfOk r (λ l. IsLine lang text (line_of l)) × IfErr r (Refuses (IsLine lang text))
 read lang text all behind first word (Ok l) spread begins is told = (told lang text (sym spread ∙ begins ∙ ap (λ w. w ∷ behind) is), tt)
 read lang text all behind first word (Err e) spread begins is told = (tt, told lang text (sym spread ∙ begins ∙ ap (λ w. w ∷ behind) is))
+
+-- the same of a word that this language has
+read-in : (lang : Language) (text : List ℕ) (all behind : List (List ℕ)) (first word : List ℕ) (r : Result Line LineError) → all ≡ fields text → all ≡ first ∷ behind → first ≡ word → IsReadIn lang word behind r
+    → IfOk r (λ l. IsLine lang text (line_of l)) × IfErr r (Refuses (IsLine lang text))
+read-in lang text all behind first word (Ok l) spread begins is told = (told text (sym spread ∙ begins ∙ ap (λ w. w ∷ behind) is), tt)
+read-in lang text all behind first word (Err e) spread begins is told = (tt, told text (sym spread ∙ begins ∙ ap (λ w. w ∷ behind) is))
 
 pub returns-in-tree-clause-ok : goal.returns-in-tree-clause-ok
 returns-in-tree-clause-ok c =
@@ -76,6 +82,30 @@ returns-in-order-clause-ok c = (read (language_of c.args.language.now) c.args.te
 pub returns-in-order-clause-bad : goal.returns-in-order-clause-bad
 returns-in-order-clause-bad c = (read (language_of c.args.language.now) c.args.text.now _ _ _ _ c.order_line.result c.of_line-fields.ensures.fields c.in-Some.ensures.words c.in-order.is c.order_line.ensures).1
 
+pub returns-in-show-clause-ok : goal.returns-in-show-clause-ok
+returns-in-show-clause-ok c = (read-in (language_of c.args.language.now) c.args.text.now _ _ _ _ c.show_line.result c.of_line-fields.ensures.fields c.in-Some.ensures.words c.in-show.is c.show_line.ensures).0
+
+pub returns-in-show-clause-bad : goal.returns-in-show-clause-bad
+returns-in-show-clause-bad c = (read-in (language_of c.args.language.now) c.args.text.now _ _ _ _ c.show_line.result c.of_line-fields.ensures.fields c.in-Some.ensures.words c.in-show.is c.show_line.ensures).1
+
+pub returns-in-spaced-clause-ok : goal.returns-in-spaced-clause-ok
+returns-in-spaced-clause-ok c = (read-in (language_of c.args.language.now) c.args.text.now _ _ _ _ c.spaced_line.result c.of_line-fields.ensures.fields c.in-Some.ensures.words c.in-spaced.is c.spaced_line.ensures).0
+
+pub returns-in-spaced-clause-bad : goal.returns-in-spaced-clause-bad
+returns-in-spaced-clause-bad c = (read-in (language_of c.args.language.now) c.args.text.now _ _ _ _ c.spaced_line.result c.of_line-fields.ensures.fields c.in-Some.ensures.words c.in-spaced.is c.spaced_line.ensures).1
+
+pub returns-in-indent-clause-ok : goal.returns-in-indent-clause-ok
+returns-in-indent-clause-ok c = (read-in (language_of c.args.language.now) c.args.text.now _ _ _ _ c.shift_line.result c.of_line-fields.ensures.fields c.in-Some.ensures.words c.in-indent.is c.shift_line.ensures).0
+
+pub returns-in-indent-clause-bad : goal.returns-in-indent-clause-bad
+returns-in-indent-clause-bad c = (read-in (language_of c.args.language.now) c.args.text.now _ _ _ _ c.shift_line.result c.of_line-fields.ensures.fields c.in-Some.ensures.words c.in-indent.is c.shift_line.ensures).1
+
+pub returns-in-dedent-clause-ok : goal.returns-in-dedent-clause-ok
+returns-in-dedent-clause-ok c = (read-in (language_of c.args.language.now) c.args.text.now _ _ _ _ c.shift_line-in-dedent.result c.of_line-fields.ensures.fields c.in-Some.ensures.words c.in-dedent.is c.shift_line-in-dedent.ensures).0
+
+pub returns-in-dedent-clause-bad : goal.returns-in-dedent-clause-bad
+returns-in-dedent-clause-bad c = (read-in (language_of c.args.language.now) c.args.text.now _ _ _ _ c.shift_line-in-dedent.result c.of_line-fields.ensures.fields c.in-Some.ensures.words c.in-dedent.is c.shift_line-in-dedent.ensures).1
+
 pub returns-in-finish-clause-ok : goal.returns-in-finish-clause-ok
 returns-in-finish-clause-ok c = (read (language_of c.args.language.now) c.args.text.now _ _ _ _ c.finish_line.result c.of_line-fields.ensures.fields c.in-Some.ensures.words c.in-finish.is c.finish_line.ensures).0
 
@@ -97,5 +127,9 @@ returns-in_default-text-clause-bad c =
       not_note = other.not-note;
       not_remove = other.not-remove;
       not_order = other.not-order;
+      not_show = other.not-show;
+      not_spaced = other.not-spaced;
+      not_indent = other.not-indent;
+      not_dedent = other.not-dedent;
       not_finish = other.not-finish;
     }))

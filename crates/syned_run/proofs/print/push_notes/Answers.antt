@@ -8,5 +8,5 @@ use Rattle.syned_run.proofs.print.push_notes.Goals as goal
 pub returns : goal.returns
 returns c =
     let edit = c.args.edit.now in
-    let whole = all_there (λ w. note_text (note_shown edit w)) c.args.words.now c.loop-word.word-index _ _ (omega (arith, c.loop-word-test.false)) c.loop-word.invariant in
-    whole ∙ ap (λ l. string_bytes c.args.out.now ++ l) (sym (flat_map-map note_text (note_shown edit) c.args.words.now))
+    let whole = all_there (λ w. note_text (note_shown c.args.ranges edit w)) c.args.words.now c.loop-word.word-index _ _ (omega (arith, c.loop-word-test.false)) c.loop-word.invariant in
+    whole ∙ ap (λ l. string_bytes c.args.out.now ++ l) (sym (flat_map-map note_text (note_shown c.args.ranges edit) c.args.words.now))

@@ -1,5 +1,6 @@
 use Rattle.std.proofs.Common.{IfErr, sym, ◌∙◌, ap, subst}
-use Rattle.syned_script.specs.Script.{lines_in, Edited, StopsSo, StopsAtFor}
+use Rattle.syned_script.specs.Script.{lines_in, StopsSo, StopsAtFor}
+use Rattle.syned_script.specs.ShownValue.{outcome_of}
 use Rattle.syned_script.specs.State.{new_state}
 use Rattle.syned_script.specs.inner.SessionState.{state_of}
 use Rattle.syned_script.specs.inner.Run.{Reached}
@@ -26,7 +27,7 @@ returns-in-Ok-clause-ok c =
     let t = state_of c.go_through.new.session in
     let done = c.in-Ok.ensures.done in
     let reached = subst (λ d. Reached d lines c.in_ok-number.number t) (ap (λ s. s.language.dialect) c.new-session.ensures) c.in_ok-number.ensures.reached in
-    (finished c.args.dialect lines c.in_ok-number.number t done.0 (Edited c.in-Ok.done.edit c.in-Ok.done.words) reached c.in_ok-number.ensures.good done.1 done.2).0
+    (finished c.args.dialect lines c.in_ok-number.number t done.0 (outcome_of c.in-Ok.done.edit c.in-Ok.done.words c.in-Ok.done.shown) reached c.in_ok-number.ensures.good done.1 done.2).0
 
 pub returns-in-Err-clause-err : goal.returns-in-Err-clause-err
 returns-in-Err-clause-err c =

@@ -1,7 +1,0 @@
-use Rattle.std.proofs.Common.{◌≡◌, ◌++◌, take, string_bytes}
-use Rattle.std.specs.List.{flat_map}
-use Rattle.syned_run.specs.Answer.{path_of, spaced}
-use Rattle.syned_run.proofs.print.push_paths.Given as goal
-
-abbrev pub invariant-loop-element : goal.invariant-loop-element
-invariant-loop-element l = string_bytes l.out ≡ string_bytes l.initial.out ++ flat_map (λ e. spaced (path_of e)) (take l.element-index l.elements)
