@@ -369,7 +369,7 @@ NAME_ROW = re.compile(r'^\w+_error_text (.*) = codes "\w+"$')
 # What only a user of scripts has to believe; the other libraries are the editor's.
 SCRIPTS = {"tree_text", "script_lines", "syned_script", "syned_run"}
 MOST_OF_EDITOR = 1618
-MOST_OF_SCRIPTS = 639
+MOST_OF_SCRIPTS = 760
 
 
 class Definition:

@@ -1134,6 +1134,20 @@ def MapStep(state, rest):
         raise Refused(why)
     state.editor.pairs.insert(0, (address(original), address(its_copy)))
 
+def WrapsStep(state, rest):
+    """What a line `wrap` does. Its new tree is younger than any, and never too long."""
+    _want_wide(state)
+    if b"|" not in rest or len(rest) < 3 or not name_in(state.kinds, rest[1]):
+        raise Bad
+    bar, wrapped = rest.index(b"|", 2), node_in(state, rest[0])
+    first, last = elements_in(state, rest[2:bar]), elements_in(state, rest[bar + 1:])
+    if not is_native(state.editor.root, wrapped):
+        raise Refused("Foreign")
+    new = Element(state.number, node(rest[1], [subtree(element) for element in (*first, wrapped, *last)]), ())
+    state.number += 1
+    state.editor.pairs.insert(0, (address(wrapped), (new.number, (len(first),))))
+    recorded(state.editor, RecordCall("Replacing", None, wrapped, wrapped, (new,)))
+
 def note_step(state, rest):
     if len(rest) != 2:
         raise Bad
@@ -1172,7 +1186,7 @@ def Steps(state, line):
         return shift_step(state, *said[:1], said[1:])
     if not state.editor:
         raise Bad
-    steps = {b"map": MapStep, b"note": note_step, b"order": order_step, b"show": show_step}
+    steps = {b"map": MapStep, b"wrap": WrapsStep, b"note": note_step, b"order": order_step, b"show": show_step}
     return steps[said[0]](state, said[1:]) if said[0] in steps else record_step(state, call_in(state, said))
 
 def lines_in(script):
@@ -1223,14 +1237,13 @@ def IsNoScript(script, dialect=SYNED):
     except UnicodeDecodeError:
         return True
 
-def paths_text(some_paths):
-    return "".join(" " + path_text(path) for path in some_paths)
+def place_of(new, path, ranges):
+    """A path in the new tree; where ranges are shown, also where its element begins and ends."""
+    begin = start(new, path) if ranges else None
+    return path_text(path) + ("@%d..%d" % (begin, begin + text_length(at(new, path))) if ranges else "")
 
-def places_text(plan, some_paths, ranges):
-    """Paths after spaces; where ranges are shown, with where the elements begin and end."""
-    new = plain(new_tree(plan)) if ranges else None
-    return "".join(" %s@%d..%d" % (path_text(path), start(new, path), start(new, path) + text_length(at(new, path))) if ranges
-                   else paths_text([path]) for path in some_paths)
+def places_text(plan, some_paths, ranges=False):
+    return "".join(" " + place_of(new_tree(plan), path, ranges) for path in some_paths)
 
 def edit_text(plan, words, details=frozenset()):
     """The printed edit: the new text, escaped, the changed places, the notes, and what is shown besides."""

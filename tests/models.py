@@ -92,8 +92,8 @@ def orders(model, plan, of_script):
 def edit_lines(model, plan):
     """The edit that a plan makes."""
     annotations = sorted({annotation for annotation, _ in plan.registrations})
-    return (["tree " + expression(model, model.new_tree(plan)), "changed" + model.paths_text(model.changed(plan))]
-            + ["found %d%s" % (annotation, model.paths_text(model.found_for(plan, annotation))) for annotation in annotations])
+    return (["tree " + expression(model, model.new_tree(plan)), "changed" + model.places_text(plan, model.changed(plan))]
+            + ["found %d%s" % (annotation, model.places_text(plan, model.found_for(plan, annotation))) for annotation in annotations])
 
 
 def expression(model, origins):
@@ -145,7 +145,7 @@ def plan_lines(model, plan, of_script):
     lines += [line for engine in ENGINES for line in ["engine " + engine] + edit]
     lines.append("built %d" % model.touched_by(plan))
     stands = [(path, model.stand_in_path(plan, path)) for path in model.node_paths(plan.root.tree)]
-    lines += ["stand" + model.paths_text(pair) for pair in stands if pair[1] is not None]
+    lines += ["stand" + model.places_text(plan, pair) for pair in stands if pair[1] is not None]
     lines.append("default" + generate.spaced(model.IsDefaultOrder(plan)))
     tried, walked = orders(model, plan, of_script)
     for order in tried:

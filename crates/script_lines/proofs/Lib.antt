@@ -14,3 +14,4 @@ mod ExpressionEnds
 mod LinesOfTrees
 mod TreeCommand
 mod OtherWords
+mod RoundBar

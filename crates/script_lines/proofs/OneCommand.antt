@@ -2,7 +2,7 @@
 --     differs          a word is not that of what a line says
 --     other, another   it is no other command's
 --     only-edit and the like      what stands behind the word
-use Rattle.std.proofs.Common.{◌≡◌, ℕ, Bool, true, false, not, ◌&&◌, nat_eq, List, [], ◌∷◌, codes, Some, refl, sym, ◌∙◌, ap, subst}
+use Rattle.std.proofs.Common.{◌≡◌, ℕ, Bool, true, false, not, ◌&&◌, nat_eq, List, [], ◌∷◌, ◌++◌, codes, Some, refl, sym, ◌∙◌, ap, subst}
 use Rattle.std.specs.Cmp.Lexicographic.{pointwise}
 use Rattle.cst_core.specs.SyntaxKind.{SyntaxKind}
 use Rattle.cst_core.specs.Tree.{SyntaxTree}
@@ -10,10 +10,11 @@ use Rattle.tree_text.specs.KindNames.{name_in}
 use Rattle.script_lines.specs.Dialect.{Language, is_wide}
 use Rattle.script_lines.specs.Line.{Each, IsGap, IsLine, IsNumber, IsRef, IsTreeLine, detail_name, fields, is_comment, shift_word}
 use Rattle.script_lines.specs.Name.{IsName}
+use Rattle.script_lines.specs.inner.Taken.{AreRoundBar}
 use Rattle.script_lines.specs.declared.detail.Detail.{Detail}
 use Rattle.script_lines.specs.declared.line.Shift.{Shift}
 use Rattle.script_lines.specs.declared.line.Shift.TheVariants.{Indent, Dedent}
-use Rattle.script_lines.specs.ScriptLine.{Ref, Gap, ScriptLine, Kinds, Tree, Edit, Map, Insert, Delete, Replace, Range, Note, Remove, Order, Show, Spaced, Shifted, Finish}
+use Rattle.script_lines.specs.ScriptLine.{Ref, Gap, ScriptLine, Kinds, Tree, Edit, Map, Insert, Delete, Replace, Range, Note, Remove, Order, Show, Spaced, Wrap, Shifted, Finish}
 use Rattle.script_lines.proofs.WordOfLine.{begins, word-of}
 
 -- what a line says that has none of these words: those of a line that indents or dedents are both none of them
@@ -202,6 +203,36 @@ module _ (lang : Language) where
   pub only-spaced : (line : List ℕ) (all : List (List ℕ)) → fields line ≡ codes "spaced" ∷ all → (l : ScriptLine) → IsLine lang line l → SaysSpaced all
   only-spaced line all is (Spaced at payload) said = record { says = record { at = at; payload = payload; word = said.0; beside = said.1; others = said.2; is = behind (fields line) (codes "spaced") all _ is said.4; placed = said.5; referred = said.6 }; wide = said.3 }
   only-spaced line all is l said = another line (codes "spaced") all is refl l said refl refl
+
+  -- ---- wrap
+  pub record SaysWrap (all : List (List ℕ)) : Type 0 where
+    pub node : Ref
+    pub kind : SyntaxKind
+    pub refs : List Ref × List Ref
+    pub field : List ℕ
+    pub name : List ℕ
+    pub others : List (List ℕ)
+    pub is : all ≡ field ∷ name ∷ others
+    pub referred : IsRef field node
+    pub is_kind : name_in lang.kinds kind.0 ≡ Some name
+    pub round : AreRoundBar others refs
+    pub wide : is_wide lang.dialect ≡ true
+
+  pub only-wrap : (line : List ℕ) (all : List (List ℕ)) → fields line ≡ codes "wrap" ∷ all → (l : ScriptLine) → IsLine lang line l → SaysWrap all
+  only-wrap line all is (Wrap node kind before after) (f, k, fs, gs, wide, says, referred, is_kind, are_before, are_after) = record {
+    node = node;
+    kind = kind;
+    refs = (before, after);
+    field = f;
+    name = k;
+    others = fs ++ codes "|" ∷ gs;
+    is = behind (fields line) (codes "wrap") all _ is says;
+    referred = referred;
+    is_kind = is_kind;
+    round = record { before = fs; after = gs; is = refl; are_before = are_before; are_after = are_after };
+    wide = wide;
+  }
+  only-wrap line all is l said = another line (codes "wrap") all is refl l said refl refl
 
   -- ---- indent and dedent
   pub record SaysShifted (all : List (List ℕ)) : Type 0 where

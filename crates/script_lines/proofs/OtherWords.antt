@@ -4,7 +4,7 @@
 use Rattle.std.proofs.Common.{◌≡◌, ◌≢◌, ℕ, true, false, List, ◌∷◌, codes, sym, ◌∙◌, ap}
 use Rattle.script_lines.specs.Dialect.{Language}
 use Rattle.script_lines.specs.Line.{IsLine, fields, is_comment, no_command}
-use Rattle.script_lines.specs.ScriptLine.{ScriptLine, Blank, Kinds, Tree, Edit, Map, Insert, Delete, Replace, Range, Note, Remove, Order, Show, Spaced, Shifted, Finish}
+use Rattle.script_lines.specs.ScriptLine.{ScriptLine, Blank, Kinds, Tree, Edit, Map, Insert, Delete, Replace, Range, Note, Remove, Order, Show, Spaced, Wrap, Shifted, Finish}
 use Rattle.script_lines.specs.declared.line.Shift.TheVariants.{Indent, Dedent}
 use Rattle.script_lines.proofs.WordOfLine.{begins}
 
@@ -22,6 +22,7 @@ pub record IsNoWord (word : List ℕ) : Type 0 where
   pub not_order : word ≢ codes "order"
   pub not_show : word ≢ codes "show"
   pub not_spaced : word ≢ codes "spaced"
+  pub not_wrap : word ≢ codes "wrap"
   pub not_indent : word ≢ codes "indent"
   pub not_dedent : word ≢ codes "dedent"
   pub not_finish : word ≢ codes "finish"
@@ -44,6 +45,7 @@ module _ (lang : Language) where
   no-line line word all is comment other (Order order) said = other.not_order (begins lang line word all is comment (Order order) said)
   no-line line word all is comment other (Show detail) said = other.not_show (begins lang line word all is comment (Show detail) said)
   no-line line word all is comment other (Spaced at payload) said = other.not_spaced (begins lang line word all is comment (Spaced at payload) said)
+  no-line line word all is comment other (Wrap node kind before after) said = other.not_wrap (begins lang line word all is comment (Wrap node kind before after) said)
   no-line line word all is comment other (Shifted Indent name node) said = other.not_indent (begins lang line word all is comment (Shifted Indent name node) said)
   no-line line word all is comment other (Shifted Dedent name node) said = other.not_dedent (begins lang line word all is comment (Shifted Dedent name node) said)
   no-line line word all is comment other Finish said = other.not_finish (begins lang line word all is comment Finish said)

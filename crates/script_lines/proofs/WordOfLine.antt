@@ -6,7 +6,7 @@ use Rattle.std.proofs.Common.{◌≡◌, ℕ, Bool, true, false, List, [], ◌�
 use Rattle.cst_core.specs.Tree.{SyntaxTree}
 use Rattle.script_lines.specs.Dialect.{Language}
 use Rattle.script_lines.specs.Line.{IsLine, IsTreeLine, fields, is_comment, line_text, no_command, shift_word, words}
-use Rattle.script_lines.specs.ScriptLine.{ScriptLine, Blank, Kinds, Tree, Edit, Map, Insert, Delete, Replace, Range, Note, Remove, Order, Show, Spaced, Shifted, Finish}
+use Rattle.script_lines.specs.ScriptLine.{ScriptLine, Blank, Kinds, Tree, Edit, Map, Insert, Delete, Replace, Range, Note, Remove, Order, Show, Spaced, Wrap, Shifted, Finish}
 use Rattle.script_lines.proofs.LinesOfTrees.{tree-parts}
 use Rattle.script_lines.proofs.WordByWord.{words-first}
 
@@ -25,6 +25,7 @@ word-of (Remove element separator) = codes "remove"
 word-of (Order order) = codes "order"
 word-of (Show detail) = codes "show"
 word-of (Spaced at payload) = codes "spaced"
+word-of (Wrap node kind before after) = codes "wrap"
 word-of (Shifted shift name node) = shift_word shift
 word-of Finish = codes "finish"
 
@@ -58,5 +59,6 @@ module _ (lang : Language) where
   begins line word all is comment (Order order) said = same-word (fields line) word (codes "order") all _ is said.1
   begins line word all is comment (Show detail) said = same-word (fields line) word (codes "show") all _ is said.1
   begins line word all is comment (Spaced at payload) said = same-word (fields line) word (codes "spaced") all _ is said.4
+  begins line word all is comment (Wrap node kind before after) said = same-word (fields line) word (codes "wrap") all _ is said.5
   begins line word all is comment (Shifted shift name node) said = same-word (fields line) word (shift_word shift) all _ is said.2
   begins line word all is comment Finish said = same-word (fields line) word (codes "finish") all [] is said

@@ -35,7 +35,7 @@ use Rattle.script_lines.specs.declared.line.Shift.{Shift}
 use Rattle.script_lines.specs.declared.line.Shift.TheVariants.{Indent, Dedent}
 use Rattle.script_lines.specs.declared.detail.Detail.{Detail}
 use Rattle.script_lines.specs.declared.detail.Detail.TheVariants as detail
-use Rattle.script_lines.specs.ScriptLine.{Ref, Gap, First, Last, Before, After, ScriptLine, Blank, Kinds, Tree, Edit, Map, Insert, Delete, Replace, Range, Note, Remove, Order, Show, Spaced, Shifted, Finish}
+use Rattle.script_lines.specs.ScriptLine.{Ref, Gap, First, Last, Before, After, ScriptLine, Blank, Kinds, Tree, Edit, Map, Insert, Delete, Replace, Range, Note, Remove, Order, Show, Spaced, Wrap, Shifted, Finish}
 
 abbrev pub line_text : List ℕ → List ℕ
 line_text line = cond (ends_with nat_eq line (13 ∷ [])) (take (length line - 1) line) line
@@ -139,6 +139,10 @@ IsLine l line (Show detail) = (is_wide l.dialect ≡ true) × (fields line ≡ c
 IsLine l line (Spaced at payload) =
     (w f : List ℕ) × (fs : List (List ℕ)) ×
     (is_wide l.dialect ≡ true) × (fields line ≡ codes "spaced" ∷ w ∷ f ∷ fs) × IsGap w f at × Each IsRef fs payload
+IsLine l line (Wrap node kind before after) =
+    (f k : List ℕ) × (fs gs : List (List ℕ)) × (is_wide l.dialect ≡ true)
+    × (fields line ≡ codes "wrap" ∷ f ∷ k ∷ fs ++ codes "|" ∷ gs) × IsRef f node × (name_in l.kinds kind.0 ≡ Some k)
+    × Each IsRef fs before × Each IsRef gs after
 IsLine l line (Shifted shift name node) =
     (f : List ℕ) ×
     (is_wide l.dialect ≡ true) × (fields line ≡ shift_word shift ∷ name ∷ f ∷ []) × IsName name × IsRef f node

@@ -14,7 +14,7 @@ use Rattle.script_lines.specs.declared.reference.Reference.{Reference}
 use Rattle.script_lines.specs.declared.line.WrittenPosition.{WrittenPosition}
 use Rattle.script_lines.specs.declared.line.WrittenPosition.TheVariants.{First, Last, Before, After}
 use Rattle.script_lines.specs.declared.line.Line.{Line}
-use Rattle.script_lines.specs.declared.line.Line.TheVariants.{Blank, Kinds, Tree, Edit, Map, Insert, Delete, Replace, Range, Note, Remove, Order, Show, Spaced, Shifted, Finish}
+use Rattle.script_lines.specs.declared.line.Line.TheVariants.{Blank, Kinds, Tree, Edit, Map, Insert, Delete, Replace, Range, Note, Remove, Order, Show, Spaced, Wrap, Shifted, Finish}
 
 abbrev pub language_of : code.Language → Language
 language_of l = record { dialect = l.dialect; kinds = l.names }
@@ -49,5 +49,6 @@ line_of (Remove element separator) = line.Remove (ref_of element) separator
 line_of (Order order) = line.Order order.items
 line_of (Show detail) = line.Show detail
 line_of (Spaced at payload) = line.Spaced (gap_of at) (refs_of payload)
+line_of (Wrap node kind before after) = line.Wrap (ref_of node) kind (refs_of before) (refs_of after)
 line_of (Shifted shift name node) = line.Shifted shift name.text.now (ref_of node)
 line_of Finish = line.Finish

@@ -37,5 +37,6 @@ pub data ScriptLine : Type 0 where
   Order : (order : List ℕ) → ScriptLine
   Show : (detail : Detail) → ScriptLine
   Spaced : (at : Gap) (payload : List Ref) → ScriptLine
+  Wrap : (node : Ref) (kind : SyntaxKind) (before after : List Ref) → ScriptLine
   Shifted : (shift : Shift) (name : List ℕ) (node : Ref) → ScriptLine
   Finish : ScriptLine

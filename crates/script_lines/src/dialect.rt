@@ -40,7 +40,7 @@ impl Dialect {
         }
     }
 
-    /// Whether a line may have the words of the wide dialect alone: `kinds`, `show`, `spaced`, `indent` and `dedent`.
+    /// Whether a line may have the words of the wide dialect alone: `kinds`, `spaced`, `wrap`, `indent`, `dedent` and `show`.
     pub fn is_wide(self) -> bool
         ensures { result ≡ is_wide self }
     {

@@ -22,6 +22,8 @@ pub enum Wanted {
     Place,
     /// What an answer is to show.
     Detail,
+    /// What stands between the elements before a node and those after it.
+    Bar,
     /// The end of the line.
     End,
 }
@@ -30,7 +32,7 @@ impl Wanted {
     fn as_str(self) -> &'static str {
         match self {
             Wanted::Word => {
-                "a line begins with tree, edit, map, insert, delete, replace, range, note, remove, order, finish or #; in the wide dialect also with kinds, spaced, indent, dedent or show"
+                "a line begins with tree, edit, map, insert, delete, replace, range, note, remove, order, finish or #; in the wide dialect also with kinds, spaced, wrap, indent, dedent or show"
             }
             Wanted::Name =>
                 "a name is expected: at most 32 letters, digits and underscores, a letter first",
@@ -41,6 +43,7 @@ impl Wanted {
             Wanted::Number => "the number of a change is expected",
             Wanted::Place => "first, last, before or after is expected",
             Wanted::Detail => "edits, tree or ranges is expected",
+            Wanted::Bar => "a | is expected before the elements that come after the node",
             Wanted::End => "the line has to end",
         }
     }

@@ -1,12 +1,13 @@
 //! The fields of a line, with spaces between them.
 ghost use Rattle.std.specs.Prelude.{◌≡◌, ◌≢◌, ℕ, List, [], ◌∷◌, true, false};
-ghost use Rattle.std.specs.Prelude.{IfErr, IfOk, IfSome, MatchOption, OnErr, OnOk};
+ghost use Rattle.std.specs.Prelude.{IfErr, IfOk, IfSome, IsNone, MatchOption, OnErr, OnOk, codes};
+ghost use Rattle.std.specs.List.{AllByRecursion};
 ghost use Rattle.script_lines.specs.Line.{Each, IsNumber, IsRef, fields, no_command, words};
 ghost use Rattle.script_lines.specs.LineValue.{ref_of, refs_of, texts_of};
 ghost use Rattle.script_lines.specs.Refusals.{Refuses};
 ghost use Rattle.cst_core.specs.SyntaxKind.{SyntaxKind};
 ghost use Rattle.script_lines.specs.declared.detail.Detail.{Detail};
-ghost use Rattle.script_lines.specs.inner.Taken.{Begins, IsDetail, IsKindName, IsLast, IsNamed, IsTaken};
+ghost use Rattle.script_lines.specs.inner.Taken.{AreRoundBar, Begins, IsDetail, IsFirstBar, IsKindName, IsLast, IsNamed, IsTaken};
 ghost use Rattle.script_lines.specs.inner.Word.{IsFirstWord, IsLeft, IsSpread};
 
 use crate::detail::Detail;
@@ -107,14 +108,13 @@ impl<'a> Fields<'a> {
         Name::new(field.text, field.at).ok_or(Fault::wanted(field.at, Wanted::Name))
     }
 
-    /// A kind, after which nothing is left.
-    pub(crate) fn last_kind(&mut self, names: &KindNames) -> Result<SyntaxKind, Fault>
-        ensures ok { IfOk result (λ kind. IsLast (IsKindName names.now) (words self.old.rest.now) kind) }
+    pub(crate) fn kind(&mut self, names: &KindNames) -> Result<SyntaxKind, Fault>
+        ensures ok { IfOk result
+            (λ kind. IsTaken (IsKindName names.now) (words self.old.rest.now) (words self.new.rest.now) kind) }
         ensures bad { OnErr result
-            ((kind : SyntaxKind) → IsLast (IsKindName names.now) (words self.old.rest.now) kind → ⊥) }
+            ((kind : SyntaxKind) → Begins (IsKindName names.now) (words self.old.rest.now) kind → ⊥) }
     {
         let field = self.field(Wanted::Kind)?;
-        self.end()?;
         names
             .kind(field.text)
             .ok_or(Fault::wanted(field.at, Wanted::Kind))
@@ -154,11 +154,25 @@ impl<'a> Fields<'a> {
         ensures bad { IfErr result (Refuses (Each IsRef (words self.old.rest.now))) }
     {
         let fields = self.others(alloc)?;
-        let mut references = Vec::new(alloc);
-        for field in &fields {
-            references.push(Reference::read(alloc, *field)?)?;
-        }
-        Ok(references)
+        references_in(alloc, &fields)
+    }
+
+    /// References, a field `|`, and references up to the end of the line.
+    pub(crate) fn references_round_bar(
+        &mut self,
+        alloc: Global,
+    ) -> Result<(Vec<Reference<'a>>, Vec<Reference<'a>>), LineError>
+        ensures ok { IfOk result (λ r. AreRoundBar (words self.old.rest.now) (refs_of r.0, refs_of r.1)) }
+        ensures bad { IfErr result (Refuses (AreRoundBar (words self.old.rest.now))) }
+    {
+        let end = self.line.len();
+        let fields = self.others(alloc)?;
+        let Some(bar) = first_bar(&fields) else {
+            return Err(LineError::from(Fault::wanted(end, Wanted::Bar)));
+        };
+        let before = references_in(alloc, &fields[..bar])?;
+        let after = references_in(alloc, &fields[bar + 1..])?;
+        Ok((before, after))
     }
 
     /// All fields that are left.
@@ -211,6 +225,33 @@ impl<'a> Fields<'a> {
             Err(Fault::wanted(self.at(left), Wanted::End))
         }
     }
+}
+
+fn references_in<'a>(
+    alloc: Global,
+    fields: &[Field<'a>],
+) -> Result<Vec<Reference<'a>>, LineError>
+    ensures ok { IfOk result (λ rs. Each IsRef (texts_of fields.now) (refs_of rs)) }
+    ensures bad { IfErr result (Refuses (Each IsRef (texts_of fields.now))) }
+{
+    let mut references = Vec::new(alloc);
+    for field in fields {
+        references.push(Reference::read(alloc, *field)?)?;
+    }
+    Ok(references)
+}
+
+// Where the first field is that is `|`.
+fn first_bar(fields: &[Field<'_>]) -> Option<usize>
+    ensures first { IfSome result (IsFirstBar (texts_of fields.now)) }
+    ensures none { IsNone result → AllByRecursion (λ f. f ≢ codes "|") (texts_of fields.now) }
+{
+    for (index, field) in fields.iter().enumerate() {
+        if field.text == "|" {
+            return Some(index);
+        }
+    }
+    None
 }
 
 fn number_of(field: Field<'_>) -> Result<usize, Fault>

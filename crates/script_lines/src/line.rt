@@ -86,6 +86,13 @@ pub enum Line<'a> {
         at: WrittenPosition<'a>,
         payload: Vec<Reference<'a>>,
     },
+    /// A node of this kind round a node and between other elements.
+    Wrap {
+        node: Reference<'a>,
+        kind: SyntaxKind,
+        before: Vec<Reference<'a>>,
+        after: Vec<Reference<'a>>,
+    },
     /// A new tree of this name: the node, a level further in or out.
     Shifted {
         shift: Shift,
@@ -141,6 +148,7 @@ pub fn read_line<'a>(
         "order" => order_line(alloc, &mut fields),
         "show" => show_line(language, word, &mut fields),
         "spaced" => spaced_line(alloc, language, word, &mut fields),
+        "wrap" => wrap_line(alloc, language, word, &mut fields),
         "indent" => shift_line(alloc, language, word, Shift::Indent, &mut fields),
         "dedent" => shift_line(alloc, language, word, Shift::Dedent, &mut fields),
         "finish" => finish_line(&fields),
@@ -300,7 +308,8 @@ fn remove_line<'a>(
     ensures { IsReadIn (language_of language.now) (codes "remove") (words fields.old.rest.now) result }
 {
     let element = fields.reference(alloc)?;
-    let separator = fields.last_kind(&language.names)?;
+    let separator = fields.kind(&language.names)?;
+    fields.end()?;
     Ok(Line::Remove { element, separator })
 }
 
@@ -337,6 +346,26 @@ fn spaced_line<'a>(
     Ok(Line::Spaced { at, payload })
 }
 
+fn wrap_line<'a>(
+    alloc: Global,
+    language: &Language,
+    word: Field<'_>,
+    fields: &mut Fields<'a>,
+) -> Result<Line<'a>, LineError>
+    ensures { IsReadIn (language_of language.now) (codes "wrap") (words fields.old.rest.now) result }
+{
+    test_wide(language, word)?;
+    let node = fields.reference(alloc)?;
+    let kind = fields.kind(&language.names)?;
+    let (before, after) = fields.references_round_bar(alloc)?;
+    Ok(Line::Wrap {
+        node,
+        kind,
+        before,
+        after,
+    })
+}
+
 fn shift_line<'a>(
     alloc: Global,
     language: &Language,
@@ -348,8 +377,12 @@ fn shift_line<'a>(
 {
     test_wide(language, word)?;
     let name = fields.name()?;
-    let node = fields.last_reference(alloc)?;
-    Ok(Line::Shifted { shift, name, node })
+    let from = fields.last_reference(alloc)?;
+    Ok(Line::Shifted {
+        shift,
+        name,
+        node: from,
+    })
 }
 
 fn finish_line<'a>(fields: &Fields<'_>) -> Result<Line<'a>, LineError>

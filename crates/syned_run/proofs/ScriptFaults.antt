@@ -23,7 +23,7 @@ use Rattle.tree_text.specs.KindNames.{name_in}
 use Rattle.tree_text.specs.KindNames as kinds
 use Rattle.script_lines.specs.Name.{IsName, starts_with_letter}
 use Rattle.script_lines.specs.Name as names
-use Rattle.script_lines.specs.ScriptLine.{Ref, Gap, First, Last, Before, After, ScriptLine, Blank, Kinds, Tree, Edit, Map, Insert, Delete, Replace, Range, Note, Remove, Order, Show, Spaced, Shifted, Finish}
+use Rattle.script_lines.specs.ScriptLine.{Ref, Gap, First, Last, Before, After, ScriptLine, Blank, Kinds, Tree, Edit, Map, Insert, Delete, Replace, Range, Note, Remove, Order, Show, Spaced, Wrap, Shifted, Finish}
 use Rattle.script_lines.specs.Line.{line_text, between, fields, is_comment, no_command, Each, IsNumber, IsRef, IsGap, IsSpaces, IsTreeLine, IsLine}
 use Rattle.syned_run.proofs.ScriptLines.{both, syned, is_name, is_digit, is_numeral}
 use Rattle.syned_run.proofs.ScriptRuns.{true-and}
@@ -285,6 +285,7 @@ unsaid : (text : List ℕ) → not (maybe_fields (fields text)) ≡ true → not
 unsaid text h t (Kinds names) said = false≢true said.0
 unsaid text h t (Show detail) said = false≢true said.0
 unsaid text h t (Spaced at payload) said = false≢true said.3
+unsaid text h t (Wrap node kind before after) said = false≢true said.4
 unsaid text h t (Shifted shift name node) said = false≢true said.1
 unsaid text h t Blank said = refuted (fields text) (fields text) h refl (blank-passes (fields text) said)
 unsaid text h t (Tree name root) said = false≢true (sym (ap not (tree-passes text name root said)) ∙ t)

@@ -25,7 +25,7 @@ use Rattle.tree_text.specs.KindNames.{name_in}
 use Rattle.script_lines.specs.Dialect.{Language, new_language}
 use Rattle.script_lines.specs.declared.dialect.Dialect.TheVariants.{Syned}
 use Rattle.script_lines.specs.Name.{IsName, is_name_byte, starts_with_letter}
-use Rattle.script_lines.specs.ScriptLine.{Ref, Gap, First, Last, Before, After, ScriptLine, Blank, Kinds, Tree, Edit, Map, Insert, Delete, Replace, Range, Note, Remove, Order, Show, Spaced, Shifted, Finish}
+use Rattle.script_lines.specs.ScriptLine.{Ref, Gap, First, Last, Before, After, ScriptLine, Blank, Kinds, Tree, Edit, Map, Insert, Delete, Replace, Range, Note, Remove, Order, Show, Spaced, Wrap, Shifted, Finish}
 use Rattle.script_lines.specs.Line.{line_text, between, fields, is_blank, Each, IsNumber, IsRef, IsGap, IsTreeLine, IsLine}
 use Rattle.syned_run.proofs.ScriptExpressions.{Past, past_text, text-past, past_gap, gap-past, past_spaces, spaces-past, past_tree, tree-past, both-there}
 
@@ -207,6 +207,7 @@ reads text Blank = is_blank text
 reads text (Kinds names) = false
 reads text (Show detail) = false
 reads text (Spaced at payload) = false
+reads text (Wrap node kind before after) = false
 reads text (Shifted shift name node) = false
 reads text (Tree name root) = is_past (past_line name root (line_text text)) && is_name name && is_drawn root
 reads text (Edit name node) = begins (fields text) (codes "edit" ∷ name ∷ []) (node ∷ []) && is_name name
@@ -306,6 +307,7 @@ says text Blank h = h
 says text (Kinds names) h = absurd (false≢true h)
 says text (Show detail) h = absurd (false≢true h)
 says text (Spaced at payload) h = absurd (false≢true h)
+says text (Wrap node kind before after) h = absurd (false≢true h)
 says text (Shifted shift name node) h = absurd (false≢true h)
 says text (Tree name root) h =
     let parts = both (is_past (past_line name root (line_text text)) && is_name name) (is_drawn root) h in

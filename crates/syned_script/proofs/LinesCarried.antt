@@ -42,6 +42,7 @@ line-bad n s (line.Remove element separator) after h = (refl, h)
 line-bad n s (line.Order order) after h = (refl, h)
 line-bad n s (line.Show detail) after h = (refl, h)
 line-bad n s (line.Spaced at payload) after h = (refl, h)
+line-bad n s (line.Wrap node kind before wrapped) after h = (refl, h)
 line-bad n s (line.Shifted shift name node) after h = (refl, h)
 
 line-refused : (n : ℕ) (s : State) (l : ScriptLine) (after : List (List ℕ)) (r : Refusal) → Steps s l (Refuses r) → LineEnds n s l after (Refused r)
@@ -60,6 +61,7 @@ line-refused n s (line.Remove element separator) after r h = h
 line-refused n s (line.Order order) after r h = h
 line-refused n s (line.Show detail) after r h = h
 line-refused n s (line.Spaced at payload) after r h = h
+line-refused n s (line.Wrap node kind before wrapped) after r h = h
 line-refused n s (line.Shifted shift name node) after r h = h
 
 bad-ends : (n : ℕ) (s : State) (text : List ℕ) (after : List (List ℕ)) → IsBadText s text → Ends n s (text ∷ after) (BadLine n)

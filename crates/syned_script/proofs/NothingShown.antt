@@ -96,6 +96,7 @@ plain-step s text (line.Note word element) step is h p = subst IsPlainStep (sym 
 plain-step s text (line.Order order) step is h p = subst IsPlainStep (sym h) (plain-order s order p)
 plain-step s text (line.Show detail) step is h p = not-wide s is.0 p
 plain-step s text (line.Spaced at payload) step is h p = not-wide s is.3 p
+plain-step s text (line.Wrap node kind before wrapped) step is h p = not-wide s is.4 p
 plain-step s text (line.Shifted shift name node) step is h p = not-wide s is.1 p
 plain-step s text line.Finish step is h p = absurd h
 
@@ -131,6 +132,7 @@ plain-line n s (line.Remove element separator) after edit words shown p h = h
 plain-line n s (line.Order order) after edit words shown p h = h
 plain-line n s (line.Show detail) after edit words shown p h = h
 plain-line n s (line.Spaced at payload) after edit words shown p h = h
+plain-line n s (line.Wrap node kind before wrapped) after edit words shown p h = h
 plain-line n s (line.Shifted shift name node) after edit words shown p h = h
 
 plain-ends : (n : ℕ) (s : State) (texts : List (List ℕ)) (edit : Edit) (words : List (List ℕ)) (shown : Showing) → IsPlain s → Ends n s texts (Showed edit words shown) → ⊥

@@ -23,6 +23,7 @@
 --     shifted, shift_step           A tree a level further in or out; what a line `indent` or `dedent` does: it makes a tree of one.
 --     record_step, recorded_in      What a call does that records a change; the same, where there may be no such call or no editor.
 --     spaced_step, spaced_in        What a line `spaced` does, with the next tree numbers; the same, where something may be missing.
+--     WrapRefusal, WrapStep, WrapsStep  Why a node is not put between other elements; what that does; what a line `wrap` does.
 --     PairRefuses, PairStep, MapStep  Why a pair of a node and its copy is refused below a parent; what the pair does; what a line `map`
 --                                   does.
 --     with_word, annotation_of      The words after one was used: a new one comes last; the annotation of a word, which counts from 1.
@@ -68,6 +69,10 @@ use Rattle.syntax_editor.specs.Editor.{Editor, has_parent, edited_root, new_edit
 use Rattle.syntax_editor.specs.Indentation.{indented, dedented}
 use Rattle.syntax_editor.specs.Spacing.{numbers_needed}
 use Rattle.syntax_editor.specs.SpacingCalls.{spaced_insert, spacing_refusal}
+use Rattle.syntax_editor.specs.SyntaxKind.{SyntaxKind}
+use Rattle.syntax_editor.specs.Wrapping.{CanWrap, WrapRefuses, Wraps, wrapped_copy, wrapped_tree, wrapper}
+use Rattle.syntax_editor.specs.declared.wrap_error.WrapError.TheVariants as wrap_error
+use Rattle.syntax_editor.specs.declared.error.RecordError.TheVariants as record_error
 use Rattle.list_removal.specs.Removal.{removal}
 use Rattle.tree_text.specs.KindNames.{KindName, IsTaken, is_name, name_in, next_kind}
 use Rattle.script_lines.specs.Dialect.{Language, new_language}
@@ -234,6 +239,27 @@ abbrev pub spaced_in : State → Option PositionForm → Option (List SyntaxElem
 spaced_in s (Some at) (Some es) = option_map_or (spaced_step s at es) s.editing IsBad
 spaced_in s _ _ = IsBad
 
+abbrev pub WrapRefusal : Element → ℕ → SyntaxTree → Element → Refusal → Type 0
+WrapRefusal root next t n (refused.Tree TooLong) = WrapRefuses root next t n wrap_error.TooLong
+WrapRefusal root next t n (refused.Tree NoTreeNumber) = WrapRefuses root next t n wrap_error.NoTreeNumber
+WrapRefusal root next t n (refused.Map map_error.NotYounger) = WrapRefuses root next t n wrap_error.NotYounger
+WrapRefusal root next t n (refused.Record record_error.Foreign) = WrapRefuses root next t n wrap_error.Foreign
+WrapRefusal root next t n _ = ⊥
+
+abbrev pub WrapStep : State → SyntaxKind → Element → List SyntaxElement → List SyntaxElement → Editing → Step → Type 0
+WrapStep s kind n before after e (Goes t) =
+    CanWrap e.editor.root s.next (wrapped_tree kind before n after) n
+    × ((editor : Editor)
+    × Wraps n (wrapper s.next kind before n after) ((n, wrapped_copy s.next kind before n after) ∷ []) e.editor editor
+    × (t ≡ record (with_editor editor e s) { next = s.next + 1 }))
+WrapStep s kind n before after e (Refuses r) = WrapRefusal e.editor.root s.next (wrapped_tree kind before n after) n r
+WrapStep s kind n before after e IsBad = ⊥
+
+abbrev pub WrapsStep : State → SyntaxKind → Option Element → Option (List SyntaxElement) → Option (List SyntaxElement) → Step → Type 0
+WrapsStep s kind (Some n) (Some before) (Some after) step =
+    MatchOption s.editing (step ≡ IsBad) (λ e. WrapStep s kind n before after e step)
+WrapsStep s kind _ _ _ step = step ≡ IsBad
+
 abbrev pub PairRefuses : Element → Element × Element → Refusal → Type 0
 PairRefuses parent pair (refused.Map map_error.Memory) = ⊥
 PairRefuses parent pair (refused.Map reason) = RefusesPair parent pair reason
@@ -287,6 +313,8 @@ Steps s (line.Note word element) step = step ≡ note_step s word (element_in s.
 Steps s (line.Order order) step = step ≡ order_step s order
 Steps s (line.Show detail) step = step ≡ show_step s detail
 Steps s (line.Spaced at payload) step = step ≡ spaced_in s (position_in s.roots at) (elements_in s.roots payload)
+Steps s (line.Wrap node kind before after) step =
+    WrapsStep s kind (node_in s.roots node) (elements_in s.roots before) (elements_in s.roots after) step
 Steps s (line.Shifted shift name node) step = step ≡ shift_step s shift name (node_in s.roots node)
 Steps s line.Finish step = ⊥
 Steps s call step = step ≡ recorded_in s (call_in s.roots call)

@@ -1,9 +1,11 @@
 -- Why a script ends at a line, by the error of a call.
---     stop_of_line, stop_of_tree, stop_of_indent, stop_of_map, stop_of_record, stop_of_edit, stop_of_execute  Why a script ends, by the error of the call.
+--     stop_of_line, stop_of_tree, stop_of_indent, stop_of_wrap, stop_of_map, stop_of_record, stop_of_edit, stop_of_execute  Why a script ends, by the error of the call.
 use Rattle.syntax_editor.specs.TreeError.{TreeError}
 use Rattle.syntax_editor.specs.TreeError.TheVariants as tree_error
 use Rattle.syntax_editor.specs.IndentError.{IndentError}
 use Rattle.syntax_editor.specs.IndentError.TheVariants as indent_error
+use Rattle.syntax_editor.specs.declared.wrap_error.WrapError.{WrapError}
+use Rattle.syntax_editor.specs.declared.wrap_error.WrapError.TheVariants as wrap_error
 use Rattle.syntax_editor.specs.MapError.{MapError}
 use Rattle.syntax_editor.specs.MapError.TheVariants as map_error
 use Rattle.syntax_editor.specs.declared.error.RecordError.{RecordError}
@@ -31,6 +33,13 @@ abbrev pub stop_of_indent : IndentError → Stop
 stop_of_indent indent_error.TooLong = Refused (Tree tree_error.TooLong)
 stop_of_indent indent_error.NoTreeNumber = Refused (Tree tree_error.NoTreeNumber)
 stop_of_indent _ = Memory
+
+abbrev pub stop_of_wrap : WrapError → Stop
+stop_of_wrap wrap_error.TooLong = Refused (Tree tree_error.TooLong)
+stop_of_wrap wrap_error.NoTreeNumber = Refused (Tree tree_error.NoTreeNumber)
+stop_of_wrap wrap_error.NotYounger = Refused (Map map_error.NotYounger)
+stop_of_wrap wrap_error.Foreign = Refused (Record record_error.Foreign)
+stop_of_wrap wrap_error.Memory = Memory
 
 abbrev pub stop_of_map : MapError → Stop
 stop_of_map map_error.Memory = Memory

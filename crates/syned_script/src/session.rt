@@ -93,6 +93,12 @@ impl Session {
             Line::Order { order } => self.order(order),
             Line::Show { detail } => self.show(detail),
             Line::Spaced { at, payload } => self.insert_spaced(&at, &payload),
+            Line::Wrap {
+                node,
+                kind,
+                before,
+                after,
+            } => self.wrap(&node, kind, &before, &after),
             Line::Shifted { shift, name, node } => self.add_shifted(shift, name, &node),
             Line::Finish => Err(Stop::bad(0, Reason::NoFinish)),
         }
@@ -178,8 +184,8 @@ impl Session {
             return Err(Stop::bad(name.at(), Reason::NameTaken));
         }
         let node = self.roots.node(self.alloc, node)?;
-        let root = shifted(self.alloc, shift, &node, &mut self.ids)?;
-        self.roots.add(self.alloc, name, root)
+        let moved = shifted(self.alloc, shift, &node, &mut self.ids)?;
+        self.roots.add(self.alloc, name, moved)
     }
 
     fn edit(&mut self, name: Name<'_>, node: &Reference<'_>) -> Result<(), Stop>
@@ -268,6 +274,36 @@ impl Session {
                         elements,
                     )?,
                 )
+            }
+            None => Err(no_edit()),
+        }
+    }
+
+    fn wrap(
+        &mut self,
+        node: &Reference<'_>,
+        kind: SyntaxKind,
+        before: &[Reference<'_>],
+        after: &[Reference<'_>],
+    ) -> Result<(), Stop>
+        ensures { LineGives (state_of self.old)
+            (says.Wrap (ref_of node.now) kind (map ref_of before.now) (map ref_of after.now))
+            result (state_of self.new) }
+    {
+        match &mut self.editing {
+            Some(editing) => {
+                let node = self.roots.node(self.alloc, node)?;
+                let before = self.roots.elements(self.alloc, before)?;
+                let after = self.roots.elements(self.alloc, after)?;
+                editing.editor.wrap(
+                    self.alloc,
+                    &mut self.ids,
+                    &node,
+                    kind,
+                    &before,
+                    &after,
+                )?;
+                Ok(())
             }
             None => Err(no_edit()),
         }

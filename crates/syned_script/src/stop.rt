@@ -8,7 +8,7 @@ use crate::refusal::Refusal;
 use cst_core::TreeError;
 use script_lines::LineError;
 use std::alloc::{AllocError, AllocFailed};
-use syntax_editor::{EditError, ExecuteError, IndentError, MapError, RecordError};
+use syntax_editor::{EditError, ExecuteError, IndentError, MapError, RecordError, WrapError};
 
 /// Why a script ends at a line.
 #[derive(Debug, Drop)]
@@ -106,6 +106,23 @@ impl From<IndentError> for Stop {
             IndentError::NoTreeNumber => Stop::Refused(Refusal::Tree(TreeError::NoTreeNumber)),
             IndentError::LevelTooLarge | IndentError::NotYounger | IndentError::Memory =>
                 Stop::Memory,
+        }
+    }
+}
+
+impl From<WrapError> for Stop {
+    ghost use Rattle.std.specs.Prelude.{◌≡◌};
+    ghost use Rattle.syned_script.specs.StopOfError.{stop_of_wrap};
+
+    ghost from_gives = { λ error stop. stop ≡ stop_of_wrap error };
+
+    fn from(error: WrapError) -> Stop {
+        match error {
+            WrapError::TooLong => Stop::Refused(Refusal::Tree(TreeError::TooLong)),
+            WrapError::NoTreeNumber => Stop::Refused(Refusal::Tree(TreeError::NoTreeNumber)),
+            WrapError::NotYounger => Stop::Refused(Refusal::Map(MapError::NotYounger)),
+            WrapError::Foreign => Stop::Refused(Refusal::Record(RecordError::Foreign)),
+            WrapError::Memory => Stop::Memory,
         }
     }
 }

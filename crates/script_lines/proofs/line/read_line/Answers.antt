@@ -94,6 +94,12 @@ returns-in-spaced-clause-ok c = (read-in (language_of c.args.language.now) c.arg
 pub returns-in-spaced-clause-bad : goal.returns-in-spaced-clause-bad
 returns-in-spaced-clause-bad c = (read-in (language_of c.args.language.now) c.args.text.now _ _ _ _ c.spaced_line.result c.of_line-fields.ensures.fields c.in-Some.ensures.words c.in-spaced.is c.spaced_line.ensures).1
 
+pub returns-in-wrap-clause-ok : goal.returns-in-wrap-clause-ok
+returns-in-wrap-clause-ok c = (read-in (language_of c.args.language.now) c.args.text.now _ _ _ _ c.wrap_line.result c.of_line-fields.ensures.fields c.in-Some.ensures.words c.in-wrap.is c.wrap_line.ensures).0
+
+pub returns-in-wrap-clause-bad : goal.returns-in-wrap-clause-bad
+returns-in-wrap-clause-bad c = (read-in (language_of c.args.language.now) c.args.text.now _ _ _ _ c.wrap_line.result c.of_line-fields.ensures.fields c.in-Some.ensures.words c.in-wrap.is c.wrap_line.ensures).1
+
 pub returns-in-indent-clause-ok : goal.returns-in-indent-clause-ok
 returns-in-indent-clause-ok c = (read-in (language_of c.args.language.now) c.args.text.now _ _ _ _ c.shift_line.result c.of_line-fields.ensures.fields c.in-Some.ensures.words c.in-indent.is c.shift_line.ensures).0
 
@@ -129,6 +135,7 @@ returns-in_default-text-clause-bad c =
       not_order = other.not-order;
       not_show = other.not-show;
       not_spaced = other.not-spaced;
+      not_wrap = other.not-wrap;
       not_indent = other.not-indent;
       not_dedent = other.not-dedent;
       not_finish = other.not-finish;

@@ -17,7 +17,7 @@ returns-in_err-name c = bad-read (language_of c.args.language.now) (shift_word c
     let says = (only-shifted (language_of c.args.language.now) line c.args.shift _ is l said).says in
     c.in_err-name.ensures.bad says.name (says.field ∷ [], record { word = says.name; first = says.is; says = (refl, says.named) }))
 
-pub returns-in_err-node : goal.returns-in_err-node
-returns-in_err-node c = err-read (language_of c.args.language.now) (IsLast IsRef (words c.name.new.self.rest.now)) (shift_word c.args.shift) (words c.args.fields.now.rest.now) c.from_residual-in_err-node.result _ c.from_residual-in_err-node.ensures.1 c.in_err-node.ensures.bad (λ line is l said.
+pub returns-in_err-from : goal.returns-in_err-from
+returns-in_err-from c = err-read (language_of c.args.language.now) (IsLast IsRef (words c.name.new.self.rest.now)) (shift_word c.args.shift) (words c.args.fields.now.rest.now) c.from_residual-in_err-from.result _ c.from_residual-in_err-from.ensures.1 c.in_err-from.ensures.bad (λ line is l said.
     let says = (only-shifted (language_of c.args.language.now) line c.args.shift _ is l said).says in
     (says.node, record { word = says.field; first = behind-taken IsNamed _ _ _ says.name _ c.in_ok-name.ensures.ok says.is; says = says.referred }))
