@@ -227,10 +227,7 @@ impl<'a> Fields<'a> {
     }
 }
 
-fn references_in<'a>(
-    alloc: Global,
-    fields: &[Field<'a>],
-) -> Result<Vec<Reference<'a>>, LineError>
+fn references_in<'a>(alloc: Global, fields: &[Field<'a>]) -> Result<Vec<Reference<'a>>, LineError>
     ensures ok { IfOk result (λ rs. Each IsRef (texts_of fields.now) (refs_of rs)) }
     ensures bad { IfErr result (Refuses (Each IsRef (texts_of fields.now))) }
 {

@@ -74,11 +74,7 @@ fn push_note(
 }
 
 // Each after one space.
-fn push_places(
-    out: &mut String,
-    elements: &[SyntaxElement],
-    ranges: bool,
-) -> Result<(), AllocError>
+fn push_places(out: &mut String, elements: &[SyntaxElement], ranges: bool) -> Result<(), AllocError>
     ensures { OnOk result
         (string_bytes out.new ≡ string_bytes out.old ++ places_text (places_of ranges elements.now)) }
 {

@@ -73,9 +73,9 @@ plain-map s (Some parent) (Some input) (Some output) step h p = plain-editing s 
 
 plain-note : (s : State) (word : List ℕ) (r : line.Ref) → IsPlain s → IsPlainStep (note_step s word (element_in s.roots r))
 plain-note s word r p = elim (element_in s.roots r) as (λ o. IsPlainStep (note_step s word o)) [
-    | None ↦ tt
-    | Some e ↦ if-there IsPlainStep _ s.editing IsBad (λ editing is. record { syned = p.syned; none = is-none s editing p is }) tt
-  ]
+  | None ↦ tt
+  | Some e ↦ if-there IsPlainStep _ s.editing IsBad (λ editing is. record { syned = p.syned; none = is-none s editing p is }) tt
+]
 
 plain-order : (s : State) (order : List ℕ) → IsPlain s → IsPlainStep (order_step s order)
 plain-order s order p = if-there IsPlainStep _ s.editing IsBad (λ e is. either IsPlainStep _ IsBad _ tt (record { syned = p.syned; none = is-none s e p is })) tt

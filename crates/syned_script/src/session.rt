@@ -19,7 +19,9 @@ use crate::shown::Details;
 use crate::stop::Stop;
 use crate::words::Words;
 use cst_core::{GreenNode, SyntaxKind, SyntaxNode, TreeIds};
-use script_lines::{Detail, Dialect, Field, Language, Line, Name, Reference, Shift, WrittenPosition};
+use script_lines::{
+    Detail, Dialect, Field, Language, Line, Name, Reference, Shift, WrittenPosition,
+};
 use std::alloc::Global;
 use syntax_editor::SyntaxEditor;
 
@@ -267,12 +269,9 @@ impl Session {
                 let at = self.roots.position(self.alloc, at)?;
                 let elements = self.roots.elements(self.alloc, payload)?;
                 Ok(
-                    editing.editor.insert_all_with_whitespace(
-                        self.alloc,
-                        &mut self.ids,
-                        at,
-                        elements,
-                    )?,
+                    editing
+                        .editor
+                        .insert_all_with_whitespace(self.alloc, &mut self.ids, at, elements)?,
                 )
             }
             None => Err(no_edit()),
@@ -295,14 +294,9 @@ impl Session {
                 let node = self.roots.node(self.alloc, node)?;
                 let before = self.roots.elements(self.alloc, before)?;
                 let after = self.roots.elements(self.alloc, after)?;
-                editing.editor.wrap(
-                    self.alloc,
-                    &mut self.ids,
-                    &node,
-                    kind,
-                    &before,
-                    &after,
-                )?;
+                editing
+                    .editor
+                    .wrap(self.alloc, &mut self.ids, &node, kind, &before, &after)?;
                 Ok(())
             }
             None => Err(no_edit()),
