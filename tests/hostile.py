@@ -17,6 +17,7 @@ In a third of the damaged scripts bytes were changed, cut, doubled or exchanged.
 others of the script, and lines moved, so that about half of all come to an end or a refusal. No answer is known of them: the program must print
 what the model says (tests/model.py), with the status that goes with it. Where a script comes to an end or a refusal, all else that the editor
 says of it is compared with the model as well, as by tests/models.py."""
+import itertools
 import multiprocessing
 import os
 import random
@@ -33,6 +34,8 @@ from known import LIMIT, OPENING, UNCHANGED, bad
 
 SPARE_STACK = 256
 DAMAGED = 20_000
+# So many damaged scripts are tried by one worker at a time.
+GROUP = 40
 # After so many wrong answers the others are not asked for.
 MOST_WRONG = 20
 SEED = 20_260_101
@@ -453,20 +456,30 @@ def try_row(row):
     return None
 
 
-def try_damaged(number):
-    """The status, and what is wrong."""
-    script = damaged(number, Task.scripts)
-    status, out = run(Task.syned, script, Task.stack)
-    meant = model.IsAnswerFor(model.SYNED, script)
-    if (status, out) != meant:
-        return status, (f"wrong: damaged script {number}: status {status}, it printed {out[:200]!r}; "
-                        f"the model {meant[0]}, {meant[1][:200]!r}\n{script.decode(errors='replace')}")
-    if status > 1:
-        return status, None
-    batch, wanted = models.asked((f"damaged {number}", script))
-    ended, said = run(Task.answers, batch.encode())
-    wrong = f"it ends with status {ended}" if ended != 0 else models.difference(wanted, said.decode(errors="replace"))
-    return status, wrong and f"wrong: {wrong}\n{script.decode(errors='replace')}"
+def try_damaged(numbers):
+    """For each of these damaged scripts the status, and what is wrong. What the editor says of their plans is asked of all in one run, and of each
+    in one of its own where that is not as it has to be."""
+    tried, asked = [], []
+    for number in numbers:
+        script = damaged(number, Task.scripts)
+        status, out = run(Task.syned, script, Task.stack)
+        meant = model.IsAnswerFor(model.SYNED, script)
+        tried.append((status, (status, out) != meant and f"wrong: damaged script {number}: status {status}, it printed {out[:200]!r}; "
+                      f"the model {meant[0]}, {meant[1][:200]!r}\n{script.decode(errors='replace')}"))
+        if status in (0, 1) and not tried[-1][1]:
+            asked.append((len(tried) - 1, script, *models.asked((f"damaged {number}", script))))
+    if is_said("".join(batch for *_, batch, _ in asked), "".join(wanted for *_, wanted in asked)):
+        return tried
+    for at, script, batch, wanted in asked:
+        if not is_said(batch, wanted):
+            said = run(Task.answers, batch.encode())[1].decode(errors="replace")
+            tried[at] = tried[at][0], f"wrong: {models.difference(wanted, said) or 'it does not end well'}\n{script.decode(errors='replace')}"
+    return tried
+
+
+def is_said(batch, wanted):
+    """Whether the program that prints what the editor says of a batch prints this, and ends well."""
+    return run(Task.answers, batch.encode()) == (0, wanted.encode())
 
 
 def needed_stack():
@@ -499,7 +512,8 @@ def rows(pool):
 
 def damage(pool, count):
     statuses, wrong = [0, 0, 0], []
-    for status, said in pool.imap(try_damaged, range(count), chunksize=64):
+    groups = [range(at, min(at + GROUP, count)) for at in range(0, count, GROUP)]
+    for status, said in itertools.chain.from_iterable(pool.imap(try_damaged, groups)):
         if said:
             wrong.append(said)
         else:

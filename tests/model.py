@@ -10,12 +10,13 @@ How to read it. A function or class has the name of a row of docs/DEFINITIONS.md
 search for a name there to find its meaning, and here to find it as code. Names that begin with an underscore and names in capitals are
 the model's own. A definition of changes takes the plan first, and a change by its number; a fact that holds of one value alone is the
 function that returns it. Nothing is found step by step: a tree, a place, a fate or an order is what its definition says, tried on all
-there is. `_kept` keeps what was once found, and `Mapping`, `_Aims` and `_by_path` look things up in tables; neither changes a meaning.
+there is. `_kept` and `lru_cache` keep what was once found, and `Mapping`, `_Aims` and `_by_path` look things up in tables; neither changes a meaning.
 Paths are tuples of slots, texts are bytes, an address is a tree's number with a path.
 """
 import itertools
 import re
 import sys
+from functools import lru_cache
 from os.path import commonprefix
 from typing import NamedTuple, Optional, Tuple
 
@@ -766,9 +767,11 @@ def last_in_gap(first, second):
     """Of two inserts into one gap, the one that comes last there."""
     return gap_order([first, second])[-1]
 
+@_kept
 def gap_first(plan, first, second):
     return same_gap(_aim(plan, first), _aim(plan, second)) and last_in_gap(first, second) == first
 
+@_kept
 def anchor_token(plan, number):
     """The path of the token that an insert directly follows, if any."""
     position = plan.changes[number].position
@@ -777,6 +780,7 @@ def anchor_token(plan, number):
 def token_first(plan, first, second):
     return anchor_token(plan, first) is not None and anchor_token(plan, first) in targets(_aim(plan, second))
 
+@_kept
 def comes_first(plan, first, second):
     return first != second and (owned_first(plan, first, second) or gap_first(plan, first, second) or token_first(plan, first, second))
 
@@ -1207,6 +1211,7 @@ def EndRefuses(plan, order):
     """Why `finish` does not carry the changes out: the plan comes first, then the order, then the new tree."""
     return BuildRefuses(plan) or (OrderRefuses(plan, order) if order is not None else None) or ("TooLong" if TextIsTooLong(plan) else None)
 
+@lru_cache(maxsize=1)
 def MeansFor(dialect, script):
     """How a script of a dialect ends. After `finish` the first line that is not blank is bad, and without one the line after the last."""
     state, lines = State(dialect), lines_in(script)

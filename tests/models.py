@@ -78,6 +78,8 @@ MOST_PRINTED, MOST_WRONG = 1_000_000, 20
 def orders(model, plan, of_script):
     """The orders to try, and those of them to walk: the default one, two more and that of the script, and all orders of up to three changes.
     Tried are also some with two neighbours swapped, and some lists that lack a change or have one too many."""
+    if "orders" in plan.kept:
+        return plan.kept["orders"]
     changes, default = model.undropped(plan), model.IsDefaultOrder(plan)
     walked = [default, generate.ready_order(model, plan, min), generate.ready_order(model, plan, max)] + ([of_script] if of_script is not None else [])
     if len(changes) <= 3:
@@ -86,7 +88,8 @@ def orders(model, plan, of_script):
     all_numbers = list(range(len(plan.changes)))
     others = [changes, default[::-1], default[1:], default + default[:1], all_numbers, default + [len(plan.changes)]]
     tried = [list(order) for order in dict.fromkeys(map(tuple, walked + swapped + others))]
-    return tried, [order for order in tried if order in walked and model.IsAllowed(plan, order)]
+    plan.kept["orders"] = tried, [order for order in tried if order in walked and model.IsAllowed(plan, order)]
+    return plan.kept["orders"]
 
 
 def edit_lines(model, plan):
@@ -104,16 +107,24 @@ def quoted(model, text):
     return '"' + model.escaped(text).decode() + '"'
 
 
-def walk_lines(model, plan, order, edit):
-    """The tree and the payloads after each step of an order."""
-    lines, numbers = ["walk" + generate.spaced(order)], range(len(plan.changes))
+def state_lines(model, plan, done):
+    """The tree and the payloads where these changes are done."""
+    numbers = range(len(plan.changes))
+    ready = generate.spaced(number for number in numbers if model.is_ready(plan, done, number))
+    return ["at%s:%s" % (generate.spaced(done), ready), "built %d" % sum(model.way_length(plan, number) for number in done),
+            "tree " + expression(model, model.stage_tree(plan, done)),
+            *("payload %d %s" % (number, expression(model, model.stage_payload(plan, number, done)))
+              for number in numbers if model.has_stage(plan, number))]
+
+
+def walk_lines(model, plan, order, edit, states):
+    """The state after each step of an order. What was said of a state is kept."""
+    lines = ["walk" + generate.spaced(order)]
     for steps in range(len(order) + 1):
-        done = order[:steps]
-        lines.append("at%s:%s" % (generate.spaced(sorted(done)), generate.spaced(number for number in numbers if model.is_ready(plan, done, number))))
-        lines.append("built %d" % sum(model.way_length(plan, number) for number in done))
-        lines.append("tree " + expression(model, model.stage_tree(plan, done)))
-        lines += ["payload %d %s" % (number, expression(model, model.stage_payload(plan, number, done)))
-                  for number in numbers if model.has_stage(plan, number)]
+        done = tuple(sorted(order[:steps]))
+        if done not in states:
+            states[done] = state_lines(model, plan, done)
+        lines += states[done]
     return lines + ["finish"] + edit
 
 
@@ -151,7 +162,8 @@ def plan_lines(model, plan, of_script):
     for order in tried:
         refusal = model.OrderRefuses(plan, order)
         lines += ["try%s: %s" % (generate.spaced(order), refusal)] if refusal else ["try%s: allowed" % generate.spaced(order)] + edit
-    return lines + [line for order in walked for line in walk_lines(model, plan, order, edit)]
+    states = {}
+    return lines + [line for order in walked for line in walk_lines(model, plan, order, edit, states)]
 
 
 def plan_in(model, outcome):
