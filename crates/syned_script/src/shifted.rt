@@ -9,7 +9,7 @@ use crate::stop::Stop;
 use cst_core::{SyntaxNode, TreeIds};
 use script_lines::Shift;
 use std::alloc::Global;
-use syntax_editor::{IndentLevel, dedent, indent};
+use whitespace::{IndentLevel, dedent, indent};
 
 const ONE: IndentLevel = IndentLevel(1);
 

@@ -33,5 +33,5 @@ pub use editor::SyntaxEditor;
 pub use error::{MergeError, RecordError};
 pub use factory::SyntaxFactory;
 pub use next_edit::NextEdit;
-pub use whitespace::{IndentError, IndentLevel, dedent, indent};
+pub use whitespace::{IndentError, IndentLevel, indent};
 pub use wrap_error::WrapError;
