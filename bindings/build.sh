@@ -1,9 +1,13 @@
 #!/usr/bin/env bash
-# build.sh: makes bindings/out/libsyned.a, with the toolchain's C part and bindings/c/syned.c inside, and bindings/out/libsyned.so. It takes the
-# archive of the crate `syned_c` that is there, unless a source is newer. Else it makes that archive: over the libraries that `rt ci` left, if
-# these are fresh, in less than a minute, and by `rt lib`, which proves all of them, if not.
+# build.sh        makes bindings/out/libsyned.a, with the toolchain's C part and bindings/c/syned.c inside, and bindings/out/libsyned.so. It takes
+#                 the archive of the crate `syned_c` that is there, unless a source is newer. Else it makes that archive: over the libraries that
+#                 `rt ci` left, if these are fresh, in less than a minute, and by `rt lib`, which proves all of them, if not.
+# build.sh try    makes both without proofs, in a minute, for those who only try: each call starts a program that was compiled without them. The
+#                 version says so.
 set -euo pipefail
 cd "$(dirname "$0")/.."
+room=$(mktemp -d)
+trap 'rm -rf "$room"' EXIT
 archive=crates/syned_c/out/libsyned_c.a
 kit=$(dirname "$(rt doc)")
 needed=$(python3 tests/api.py below syned_c)
@@ -36,19 +40,37 @@ build_over_left() {
     (cd crates/syned_c && mkdir -p out && rattle build "${words[@]}")
 }
 
-if ! is_newest "$archive" $needed; then
-    if are_left; then
-        build_over_left
-    else
-        (cd crates/syned_c && rt lib)
-    fi >bindings/build.log 2>&1 || { tail -n 20 bindings/build.log >&2 && exit 1; }
-fi
-room=$(mktemp -d)
-trap 'rm -rf "$room"' EXIT
-archive=$PWD/$archive
-(cd "$room" && ar x "$archive" && ar x "$kit/c/liblibc_c.a")
+# The objects of a library over a program without proofs.
+objects_to_try() {
+    local program
+    program=$(python3 examples/run.py --program)
+    cp "$program" bindings/out/syned-not-proved
+    cc -O2 -fPIC -Wall -Wextra -Werror -Ibindings/c -DSYNED_PROGRAM="\"$PWD/bindings/out/syned-not-proved\"" -c bindings/c/try.c -o "$room/try.o"
+    version=", not proved"
+    echo 'bindings: this library is not proved: each call starts a program that was compiled without proofs' >&2
+}
+
+# The objects of the archive.
+objects() {
+    if ! is_newest "$archive" $needed; then
+        if are_left; then
+            build_over_left
+        else
+            (cd crates/syned_c && rt lib)
+        fi >bindings/build.log 2>&1 || { tail -n 20 bindings/build.log >&2 && exit 1; }
+    fi
+    archive=$PWD/$archive
+    (cd "$room" && ar x "$archive" && ar x "$kit/c/liblibc_c.a")
+}
+
+version=
 mkdir -p bindings/out
-cc -O2 -fPIC -Wall -Wextra -Werror -Ibindings/c -c bindings/c/syned.c -o "$room/syned_c_part.o"
+case ${1:-} in
+'') objects ;;
+try) objects_to_try ;;
+*) sed -n '2,/^[^#]/s/^# //p' bindings/build.sh && exit 2 ;;
+esac
+cc -O2 -fPIC -Wall -Wextra -Werror -Ibindings/c -DSYNED_HOW="\"$version\"" -c bindings/c/syned.c -o "$room/syned_c_part.o"
 rm -f bindings/out/libsyned.*
 ar rcs bindings/out/libsyned.a "$room"/*.o
 # Only what syned.h declares is exported. A program that was linked to another major version does not find this one.

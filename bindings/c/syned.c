@@ -2,8 +2,13 @@
 #include "syned.h"
 #include <string.h>
 
+/* What `bindings/build.sh try` adds to the version. */
+#ifndef SYNED_HOW
+#define SYNED_HOW ""
+#endif
+
 const char *syned_version(void) {
-    return SYNED_VERSION;
+    return SYNED_VERSION SYNED_HOW;
 }
 
 /* The characters that a backslash stands before, and what each is behind it. */

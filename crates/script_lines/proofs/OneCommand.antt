@@ -1,9 +1,10 @@
 -- What a line says that begins with the word of a command.
 --     differs          a word is not that of what a line says
---     other, another   it is no other command's
+--     of-other-word, another   it is no other command's
 --     only-edit and the like      what stands behind the word
 use Rattle.std.proofs.Common.{◌≡◌, ℕ, Bool, true, false, not, ◌&&◌, nat_eq, List, [], ◌∷◌, ◌++◌, codes, Some, refl, sym, ◌∙◌, ap, subst}
 use Rattle.std.specs.Cmp.Lexicographic.{pointwise}
+use Rattle.std.proofs.lemmas.Bool.{false≢true}
 use Rattle.cst_core.specs.SyntaxKind.{SyntaxKind}
 use Rattle.cst_core.specs.Tree.{SyntaxTree}
 use Rattle.tree_text.specs.KindNames.{name_in}
@@ -23,15 +24,15 @@ differs word (Shifted shift name node) = not (pointwise nat_eq word (codes "inde
 differs word l = not (pointwise nat_eq word (word-of l))
 
 not-true : (b : Bool) → not b ≡ true → b ≡ false
-not-true true is = absurd is
+not-true true is = absurd (false≢true is)
 not-true false is = refl
 
 first-not : (b c : Bool) → (not b && not c) ≡ true → b ≡ false
-first-not true c is = absurd is
+first-not true c is = absurd (false≢true is)
 first-not false c is = refl
 
 second-not : (b c : Bool) → (not b && not c) ≡ true → c ≡ false
-second-not true c is = absurd is
+second-not true c is = absurd (false≢true is)
 second-not false c is = not-true c is
 
 differs-not : (word : List ℕ) (l : ScriptLine) → differs word l ≡ true → pointwise nat_eq word (word-of l) ≡ false
@@ -41,13 +42,13 @@ differs-not word l is = not-true (pointwise nat_eq word (word-of l)) is
 
 module _ (lang : Language) where
   -- a line of another word
-  other : {A : Type 0} (line word : List ℕ) (all : List (List ℕ)) → fields line ≡ word ∷ all → is_comment word ≡ false → (l : ScriptLine) → IsLine lang line l → (pointwise nat_eq word word ≡ true) → (pointwise nat_eq word (word-of l) ≡ false) → A
-  other line word all is comment l said own other =
+  of-other-word : {A : Type 0} (line word : List ℕ) (all : List (List ℕ)) → fields line ≡ word ∷ all → is_comment word ≡ false → (l : ScriptLine) → IsLine lang line l → (pointwise nat_eq word word ≡ true) → (pointwise nat_eq word (word-of l) ≡ false) → A
+  of-other-word line word all is comment l said own other =
       let e : true ≡ false = sym own ∙ ap (λ w. pointwise nat_eq word w) (begins lang line word all is comment l said) ∙ other in
       absurd (cc)
 
   another : {A : Type 0} (line word : List ℕ) (all : List (List ℕ)) → fields line ≡ word ∷ all → is_comment word ≡ false → (l : ScriptLine) → IsLine lang line l → (pointwise nat_eq word word ≡ true) → differs word l ≡ true → A
-  another line word all is comment l said own other-word = other line word all is comment l said own (differs-not word l other-word)
+  another line word all is comment l said own other-word = of-other-word line word all is comment l said own (differs-not word l other-word)
 
   behind : (fs : List (List ℕ)) (word : List ℕ) (all others : List (List ℕ)) → fs ≡ word ∷ all → fs ≡ word ∷ others → all ≡ others
   behind fs word all others is says = cc
@@ -245,8 +246,8 @@ module _ (lang : Language) where
   pub only-shifted : (line : List ℕ) (shift : Shift) (all : List (List ℕ)) → fields line ≡ shift_word shift ∷ all → (l : ScriptLine) → IsLine lang line l → SaysShifted all
   only-shifted line Indent all is (Shifted Indent name node) said = shifted line (codes "indent") all Indent name node is said refl
   only-shifted line Dedent all is (Shifted Dedent name node) said = shifted line (codes "dedent") all Dedent name node is said refl
-  only-shifted line Indent all is (Shifted Dedent name node) said = other line (codes "indent") all is refl (Shifted Dedent name node) said refl refl
-  only-shifted line Dedent all is (Shifted Indent name node) said = other line (codes "dedent") all is refl (Shifted Indent name node) said refl refl
+  only-shifted line Indent all is (Shifted Dedent name node) said = of-other-word line (codes "indent") all is refl (Shifted Dedent name node) said refl refl
+  only-shifted line Dedent all is (Shifted Indent name node) said = of-other-word line (codes "dedent") all is refl (Shifted Indent name node) said refl refl
   only-shifted line Indent all is l said = another line (codes "indent") all is refl l said refl refl
   only-shifted line Dedent all is l said = another line (codes "dedent") all is refl l said refl refl
 

@@ -240,7 +240,7 @@ fn references_in<'a>(alloc: Global, fields: &[Field<'a>]) -> Result<Vec<Referenc
 
 // Where the first field is that is `|`.
 fn first_bar(fields: &[Field<'_>]) -> Option<usize>
-    ensures first { IfSome result (IsFirstBar (texts_of fields.now)) }
+    ensures first { IfSome result (IsFirstBar fields.now) }
     ensures none { IsNone result → AllByRecursion (λ f. f ≢ codes "|") (texts_of fields.now) }
 {
     for (index, field) in fields.iter().enumerate() {

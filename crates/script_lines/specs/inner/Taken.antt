@@ -5,7 +5,7 @@
 --     IsTaken         the first word says this, and these are left
 --     Begins          the first word says this, whatever is left
 --     IsLast          the one word says this
---     IsFirstBar      the first `|` of some words is at an index
+--     IsFirstBar      the first `|` of some fields is at an index
 --     AreRoundBar     words are those of references, a `|`, and those of references
 use Rattle.std.specs.Prelude.{◌≡◌, ◌≢◌, ℕ, ◌<◌, ◌+◌, List, [], ◌∷◌, ◌++◌, length, take, drop, codes, Some}
 use Rattle.std.specs.List.{AllByRecursion}
@@ -13,7 +13,9 @@ use Rattle.cst_core.specs.SyntaxKind.{SyntaxKind}
 use Rattle.tree_text.specs.KindNames.{KindName, name_in}
 use Rattle.script_lines.specs.Name.{IsName}
 use Rattle.script_lines.specs.Line.{Each, IsRef, detail_name}
+use Rattle.script_lines.specs.LineValue.{texts_of}
 use Rattle.script_lines.specs.ScriptLine.{Ref}
+use Rattle.script_lines.specs.declared.field.Field.{Field}
 use Rattle.script_lines.specs.declared.detail.Detail.{Detail}
 
 abbrev pub IsNamed : List ℕ → List ℕ → Type 0
@@ -36,10 +38,10 @@ Begins Says all a = (left : List (List ℕ)) × IsTaken Says all left a
 abbrev pub IsLast : {A : Type 0} → (List ℕ → A → Type 0) → List (List ℕ) → A → Type 0
 IsLast Says all a = IsTaken Says all [] a
 
-pub record IsFirstBar (all : List (List ℕ)) (i : ℕ) : Type 0 where
-  pub within : i < length all
-  pub is : all ≡ take i all ++ codes "|" ∷ drop (i + 1) all
-  pub none_before : AllByRecursion (λ f. f ≢ codes "|") (take i all)
+pub record IsFirstBar (fields : List Field) (i : ℕ) : Type 0 where
+  pub within : i < length fields
+  pub is : texts_of fields ≡ texts_of (take i fields) ++ codes "|" ∷ texts_of (drop (i + 1) fields)
+  pub none_before : AllByRecursion (λ f. f ≢ codes "|") (texts_of (take i fields))
 
 pub record AreRoundBar (all : List (List ℕ)) (refs : List Ref × List Ref) : Type 0 where
   pub before : List (List ℕ)

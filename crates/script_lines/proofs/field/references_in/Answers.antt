@@ -8,7 +8,7 @@ use Rattle.script_lines.proofs.field.references_in.Goals as goal
 
 pub returns-in_err-read-clause-bad : goal.returns-in_err-read-clause-bad
 returns-in_err-read-clause-bad c =
-    err-also _ (Each IsRef (texts_of c.args.fields.now)) c.from_residual-in_err-read.result c.in_err-read.field-0.0 c.from_residual-in_err-read.ensures.1 (some-at IsRef c.args.fields.now _ c.loop-field.field-index _ refl c.loop-field-test.true) c.in_err-read.ensures.bad
+    err-also _ (Each IsRef (texts_of c.args.fields.now)) c.from_residual.result c.in_err-read.field-0.0 c.from_residual.ensures.1 (some-at IsRef c.args.fields.now _ c.loop-field.field-index _ refl c.loop-field-test.true) c.in_err-read.ensures.bad
 
 pub loop-field-preserved : goal.loop-field-preserved
 loop-field-preserved c =

@@ -1,4 +1,4 @@
-use Rattle.std.proofs.Common.{[], codes, refl, sym, ◌∙◌}
+use Rattle.std.proofs.Common.{codes, refl, sym, ◌∙◌}
 use Rattle.std.proofs.lemmas.Bool.{false≢true}
 use Rattle.script_lines.specs.Line.{detail_name, words}
 use Rattle.script_lines.specs.LineValue.{language_of}

@@ -1,4 +1,4 @@
-use Rattle.std.proofs.Common.{◌∷◌, [], codes, sym, subst, ◌∙◌}
+use Rattle.std.proofs.Common.{◌∷◌, codes, sym, subst, ◌∙◌}
 use Rattle.std.proofs.lemmas.Bool.{false≢true}
 use Rattle.script_lines.specs.Line.{IsRef, words}
 use Rattle.script_lines.specs.LineValue.{language_of}
@@ -22,8 +22,8 @@ returns-in_err-kind c = bad-read (language_of c.args.language.now) (codes "wrap"
     let says = only-wrap (language_of c.args.language.now) line _ is l said in
     c.in_err-kind.ensures.bad says.kind (says.others, record { word = says.name; first = behind-taken IsRef _ _ _ says.field _ c.in_ok-node.ensures.ok says.is; says = says.is_kind }))
 
-pub returns-in_err-references_round_bar : goal.returns-in_err-references_round_bar
-returns-in_err-references_round_bar c = err-read (language_of c.args.language.now) (AreRoundBar (words c.kind.new.self.rest.now)) (codes "wrap") (words c.args.fields.now.rest.now) c.from_residual-in_err-references_round_bar.result _ c.from_residual-in_err-references_round_bar.ensures.1 c.in_err-references_round_bar.ensures.bad (λ line is l said.
+pub returns-in_err-before : goal.returns-in_err-before
+returns-in_err-before c = err-read (language_of c.args.language.now) (AreRoundBar (words c.kind.new.self.rest.now)) (codes "wrap") (words c.args.fields.now.rest.now) c.from_residual-in_err-before.result _ c.from_residual-in_err-before.ensures.1 c.in_err-before.ensures.bad (λ line is l said.
     let says = only-wrap (language_of c.args.language.now) line _ is l said in
     let behind = behind-taken IsRef _ _ _ says.field _ c.in_ok-node.ensures.ok says.is in
     let others = behind-taken (IsKindName c.args.language.now.names) _ _ _ says.name _ c.in_ok-kind.ensures.ok behind in
