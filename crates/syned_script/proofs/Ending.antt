@@ -1,7 +1,9 @@
 -- Why the changes of a script are not carried out.
 --     run-stops, order-stops       a plan is not carried out; it is not in an order
+--     listed-so                    what holds of an order in code, if there is one, holds of its list
 --     build-stops, plan-stops      a script has no plan; it has one that is not carried out
-use Rattle.std.proofs.Common.{◌≡◌, ℕ, List, Option, Some, None, inl, inr}
+use Rattle.std.proofs.Common.{ℕ, List, Option, Some, None, Vec, IfSome, option_map, inl, inr}
+use Rattle.std.specs.Global.{Global}
 use Rattle.syntax_editor.specs.Plan.{Plan, IsPlan, BuildRefuses, RunRefuses}
 use Rattle.syntax_editor.specs.Editor.{Editor, plan_of}
 use Rattle.syntax_editor.specs.ExecuteRefusal.{ExecuteRefuses}
@@ -70,3 +72,7 @@ pub plan-stops : (e : Editor) (order : Option (List ℕ)) (next : ℕ) (s : Stop
 plan-stops e order next (stop.Bad fault) plan h = h
 plan-stops e order next (stop.Refused r) plan h = plan-refused e order next r plan h
 plan-stops e order next stop.Memory plan h = tt
+
+pub listed-so : (P : List ℕ → Type 0) (o : Option (Vec ℕ Global)) → IfSome o (λ v. P v.items) → IfSome (option_map (λ v. v.items) o) P
+listed-so P None h = tt
+listed-so P (Some v) h = h

@@ -2,7 +2,7 @@
 --     Left              some of all names were given, and these are left: they can be given exactly if all can, to the same kinds
 --     all-left, one-named, all-named, not-free      at first, one name on, at last, and where the next name can't be given
 --     kinds-line        what a line gives that names kinds
-use Rattle.std.proofs.Common.{◌≡◌, ℕ, ◌+◌, ◌<◌, ◌≤◌, List, [], ◌∷◌, ◌++◌, length, get_or, drop, map, Result, Ok, Err, OnOk, IfErr, refl, sym, ◌∙◌, ap, subst}
+use Rattle.std.proofs.Common.{◌≡◌, ℕ, ◌+◌, ◌<◌, ◌≤◌, List, [], ◌∷◌, ◌++◌, length, get_or, drop, Result, Ok, Err, OnOk, IfErr, refl, sym, ◌∙◌, ap, subst}
 use Rattle.std.proofs.lemmas.List.{drop_all, drop_more}
 use Rattle.tree_text.specs.KindNames.{KindName, next_kind}
 use Rattle.script_lines.specs.LineValue.{texts_of}

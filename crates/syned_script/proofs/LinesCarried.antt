@@ -1,6 +1,7 @@
 -- Lines that were carried out, and how they end.
-use Rattle.std.proofs.Common.{◌≡◌, inl, inr, ℕ, suc, ◌+◌, ◌<◌, ◌≤◌, true, false, not, List, [], ◌∷◌, ◌++◌, length, take, drop, get_or, Option, Some, None, MatchOption, MatchBool, is_some, refl, sym, ◌∙◌, ap, subst, arith, add-one, length-take, ◌-◌}
+use Rattle.std.proofs.Common.{◌≡◌, inl, inr, ℕ, suc, ◌+◌, ◌<◌, ◌≤◌, true, false, not, List, [], ◌∷◌, ◌++◌, length, take, drop, get_or, Option, Some, None, IfSome, IfNone, MatchOption, MatchBool, is_some, refl, sym, ◌∙◌, ap, subst, arith, add-one, length-take, ◌-◌}
 use Rattle.std.specs.List.{list_all, position_or_len}
+use Rattle.std.specs.Option.{IsSomeAnd}
 use Rattle.std.proofs.lemmas.List.{take_all, take_more, append-nil}
 use Rattle.std.proofs.lemmas.Bool.{true≢false}
 use denote.Ref.{Bor}
@@ -9,9 +10,15 @@ use Rattle.script_lines.specs.declared.dialect.Dialect.{Dialect}
 use Rattle.script_lines.specs.Line.{is_blank, IsLine}
 use Rattle.script_lines.specs.ScriptLine as line
 use Rattle.script_lines.specs.ScriptLine.{ScriptLine}
-use Rattle.syned_script.specs.State.{State, new_state, Editing, Goes, Refuses, IsBad, Steps}
-use Rattle.syned_script.specs.Script.{Outcome, Refused, BadLine, FinishGives, FinishEnds, LineEnds, Ends, Carried, EndsSo, EndsAt, StopsSo}
-use Rattle.syned_script.specs.inner.Run.{texts_in, IsBadText, TextStops, Reached, EndIsGood, IsBadEnd, EndStops, FinishStops}
+use Rattle.syntax_editor.specs.Editor.{plan_of}
+use Rattle.syntax_editor.specs.Plan.{Edit}
+use Rattle.syntax_editor.specs.TextPiece.{TextPiece}
+use Rattle.tree_text.specs.KindNames.{KindName}
+use Rattle.syned_script.specs.State.{State, new_state, asks, Editing, Goes, Refuses, IsBad, Steps}
+use Rattle.syned_script.specs.Script.{Outcome, Refused, BadLine, AreEditsOf, CarriesOut, FinishGives, FinishEnds, LineEnds, Ends, Carried, EndsSo, EndsAt, StopsSo}
+use Rattle.syned_script.specs.ShownValue.{outcome_of, showing_of}
+use Rattle.syned_script.specs.declared.shown.Shown.{Shown}
+use Rattle.syned_script.specs.inner.Run.{GivesEdits, texts_in, IsBadText, TextStops, Reached, EndIsGood, IsBadEnd, EndStops, FinishStops}
 use Rattle.syned_script.specs.inner.Stops.{StopsFor}
 use Rattle.syned_script.specs.declared.refusal.Refusal.{Refusal}
 use Rattle.syned_script.specs.declared.fault.Fault.{Fault}
@@ -175,3 +182,10 @@ bad-after t lines n i s x f is bad some more first =
     let count : n + i + 1 ≡ suc n + position_or_len (λ line. not (is_blank line)) after = omega (arith, here) in
     let there : IsBadEnd t after n (n + i + 1) = inr (some, sym (ap (list_all is_blank) (rest-texts n lines)) ∙ more, count) in
     subst (EndStops t after n) (sym is) (subst (StopsFor (IsBadEnd t after n (n + i + 1)) (λ r. ⊥)) (sym bad) there)
+
+-- what is given where `finish` made an edit
+pub gives : (s : State) (e : Editing) (edit : Edit) (words : List (List ℕ)) (names : List KindName) (edits : Option (List TextPiece)) (shown : Option Shown) → CarriesOut e s.next edit → words ≡ s.words → names ≡ s.language.kinds → GivesEdits e.details (plan_of e.editor) edits → IfNone shown (asks e.details ≡ false) → IfSome shown (λ x. asks e.details ≡ true) → IfSome shown (λ x. showing_of x ≡ record { details = e.details; kinds = names; edits = edits }) → FinishGives s e (outcome_of edit words shown)
+gives s e edit words names edits None carries same named given nothing some is = (carries, same, nothing)
+gives s e edit words names edits (Some x) carries same named given nothing some is =
+    let shows : Option (List TextPiece) → Type 0 = λ o. MatchBool e.details.edits (IsSomeAnd o (AreEditsOf (plan_of e.editor))) (o ≡ None) in
+    (carries, same, record { asked = some; details = ap (λ y. y.details) is; kinds = ap (λ y. y.kinds) is ∙ named; edits = subst shows (sym (ap (λ y. y.edits) is)) given })

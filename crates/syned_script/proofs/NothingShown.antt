@@ -2,16 +2,17 @@
 --     IsPlain           a state of this dialect in which nothing is to be shown
 --     plain-carried     lines leave it so
 --     only-edited       what a script of it makes is an edit alone
-use Rattle.std.proofs.Common.{◌≡◌, inl, inr, ℕ, true, false, Bool, cond, List, [], ◌∷◌, Option, Some, None, IfSome, MatchOption, MatchBool, Result, Ok, Err, IfOk, refl, sym, ◌∙◌, ap, subst}
+use Rattle.std.proofs.Common.{◌≡◌, inl, inr, ℕ, suc, ◌==◌, ◌&&◌, ◌||◌, true, false, Bool, cond, is_some, List, [], ◌∷◌, Option, Some, None, IfSome, MatchOption, MatchBool, Result, Ok, Err, IfOk, refl, sym, ◌∙◌, ap, subst}
 use Rattle.std.specs.List.{list_all}
 use Rattle.std.specs.Option.{option_map_or}
-use Rattle.std.proofs.lemmas.Bool.{true≢false, false≢true}
+use Rattle.std.proofs.lemmas.Bool.{true≢false}
 use Rattle.syntax_editor.specs.Element.{Element}
-use Rattle.syntax_editor.specs.SyntaxElement.{node_of}
 use Rattle.syntax_editor.specs.RecordCall.{RecordCall, refusal}
 use Rattle.syntax_editor.specs.Plan.{Edit}
+use Rattle.syntax_editor.specs.TreeIds.{spent}
+use Rattle.syntax_editor.specs.TreeError.TheVariants.{NoTreeNumber}
+use Rattle.syntax_editor.specs.Editor.{has_parent, edited_root, new_editor}
 use Rattle.script_lines.specs.Dialect.{is_wide}
-use Rattle.script_lines.specs.declared.dialect.Dialect.{Dialect}
 use Rattle.script_lines.specs.declared.dialect.Dialect.TheVariants.{Syned}
 use Rattle.script_lines.specs.Line.{is_blank, IsLine}
 use Rattle.script_lines.specs.ScriptLine as line
@@ -20,8 +21,8 @@ use Rattle.syned_script.specs.declared.refusal.Refusal.TheVariants as refused
 use Rattle.syned_script.specs.declared.carried_out.CarriedOut.{CarriedOut}
 use Rattle.syned_script.specs.declared.stop.Stopped.{Stopped}
 use Rattle.syned_script.specs.declared.shown.Shown.{Shown}
-use Rattle.syned_script.specs.State.{State, new_state, asks, Editing, Step, Goes, Refuses, IsBad, Steps, PairStep, MapStep, root_refusal, edit_step, record_step, recorded_in, call_in, node_in, element_in, note_step, order_step}
-use Rattle.syned_script.specs.Script.{Outcome, Edited, Showed, Showing, BadLine, FinishGives, FinishEnds, LineEnds, Ends, Carried, EndsSo, MeansFor, Means, lines_in}
+use Rattle.syned_script.specs.State.{State, new_state, no_details, with_root, asks, Editing, Step, Goes, Refuses, IsBad, Steps, PairStep, MapStep, root_refusal, edit_step, record_step, recorded_in, call_in, node_in, element_in, note_step, order_step}
+use Rattle.syned_script.specs.Script.{Edited, Showed, Showing, BadLine, FinishGives, FinishEnds, LineEnds, Ends, Carried, MeansFor, Means}
 use Rattle.syned_script.specs.ShownValue.{outcome_of, showing_of}
 
 pub record IsPlain (s : State) : Type 0 where
@@ -48,9 +49,21 @@ not-wide : {A : Type 0} (s : State) → is_wide s.language.dialect ≡ true → 
 not-wide s wide p = absurd (true≢false (sym wide ∙ ap is_wide p.syned))
 
 -- ---- one line
+abbrev opened : State → List ℕ → Element → State
+opened s name node = record {
+  language = s.language;
+  next = cond (has_parent node) (suc s.next) s.next;
+  roots = with_root name (edited_root s.next node) s.roots;
+  words = s.words;
+  editing = Some (record { editor = new_editor s.next node; order = None; details = no_details });
+}
+
 plain-edit : (s : State) (name : List ℕ) (node : Option Element) → IsPlain s → IsPlainStep (edit_step s name node)
 plain-edit s name None p = tt
-plain-edit s name (Some node) p = either IsPlainStep _ IsBad _ tt (either IsPlainStep _ _ _ tt (record { syned = p.syned; none = refl }))
+plain-edit s name (Some node) p =
+    let begun : Step = cond (has_parent node && s.next == spent) (Refuses (refused.Tree NoTreeNumber)) (Goes (opened s name node)) in
+    either IsPlainStep (is_some s.editing || is_some (s.roots name)) IsBad begun tt
+    (either IsPlainStep (has_parent node && s.next == spent) (Refuses (refused.Tree NoTreeNumber)) (Goes (opened s name node)) tt (record { syned = p.syned; none = refl }))
 
 plain-call : (s : State) (call : Option RecordCall) → IsPlain s → IsPlainStep (recorded_in s call)
 plain-call s None p = tt
@@ -78,7 +91,7 @@ plain-note s word r p = elim (element_in s.roots r) as (λ o. IsPlainStep (note_
 ]
 
 plain-order : (s : State) (order : List ℕ) → IsPlain s → IsPlainStep (order_step s order)
-plain-order s order p = if-there IsPlainStep _ s.editing IsBad (λ e is. either IsPlainStep _ IsBad _ tt (record { syned = p.syned; none = is-none s e p is })) tt
+plain-order s order p = if-there IsPlainStep _ s.editing IsBad (λ e is. either IsPlainStep (is_some e.order) IsBad (Goes (record s { editing = Some (record e { order = Some order }) })) tt (record { syned = p.syned; none = is-none s e p is })) tt
 
 plain-step : (s : State) (text : List ℕ) (l : ScriptLine) (step : Step) → IsLine s.language text l → Steps s l step → IsPlain s → IsPlainStep step
 plain-step s text line.Blank step is h p = subst IsPlainStep (sym h) p
@@ -110,11 +123,11 @@ plain-gives s e edit words shown h none = true≢false (sym h.2.asked ∙ none)
 
 plain-end : (n : ℕ) (s : State) (after : List (List ℕ)) (edit : Edit) (words : List (List ℕ)) (shown : Showing) (o : Option Editing) → s.editing ≡ o → IsPlain s → MatchOption o (Showed edit words shown ≡ BadLine n) (λ e. FinishEnds n s e after (Showed edit words shown)) → ⊥
 plain-end n s after edit words shown None is p h = absurd (cc)
-plain-end n s after edit words shown (Some e) is p h = by-blank (list_all is_blank after) h
+plain-end n s after edit words shown (Some e) is p h = by-blank _ (list_all is_blank after) h
   where
-    by-blank : {m : ℕ} (b : Bool) → MatchBool b (FinishGives s e (Showed edit words shown)) (Showed edit words shown ≡ BadLine m) → ⊥
-    by-blank true h = plain-gives s e edit words shown h (is-none s e p is)
-    by-blank false h = absurd (cc)
+    by-blank : (m : ℕ) (b : Bool) → MatchBool b (FinishGives s e (Showed edit words shown)) (Showed edit words shown ≡ BadLine m) → ⊥
+    by-blank m true h = plain-gives s e edit words shown h (is-none s e p is)
+    by-blank m false h = absurd (cc)
 
 plain-line : (n : ℕ) (s : State) (l : ScriptLine) (after : List (List ℕ)) (edit : Edit) (words : List (List ℕ)) (shown : Showing) → IsPlain s → LineEnds n s l after (Showed edit words shown) → ⊥
 plain-line n s line.Finish after edit words shown p h = plain-end n s after edit words shown s.editing refl p h

@@ -1,6 +1,6 @@
-use Rattle.std.proofs.Common.{◌≡◌, ◌<◌, ◌≤◌, ◌^◌, ◌++◌, ◌∷◌, [], ℕ, List, true, false, None, Some, IsSome, Ok, Err, inl, inr, sym, ◌∙◌, ap, subst, arith}
+use Rattle.std.proofs.Common.{◌≡◌, ◌<◌, ◌^◌, ◌++◌, ◌∷◌, [], ℕ, None, IsSome, Ok, Err, inl, inr, sym, ◌∙◌, ap, subst, arith}
 use Rattle.std.proofs.lemmas.Bool.{false≢true, cases_Bool}
-use Rattle.tree_text.specs.KindNames.{is_name, name_in, next_kind}
+use Rattle.tree_text.specs.KindNames.{is_name, name_in}
 use Rattle.syned_script.specs.State.{IsFree}
 use Rattle.syned_script.specs.inner.Stops.{StopsFor}
 use Rattle.syned_script.proofs.kinds.name_kind.Goals as goal

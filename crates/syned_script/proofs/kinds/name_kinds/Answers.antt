@@ -1,6 +1,6 @@
-use Rattle.std.proofs.Common.{IfErr, arith, subst, sym}
+use Rattle.std.proofs.Common.{IfErr, arith}
 use Rattle.script_lines.specs.LineValue.{texts_of}
-use Rattle.syned_script.specs.State.{AreFree, IsFree}
+use Rattle.syned_script.specs.State.{AreFree}
 use Rattle.syned_script.specs.inner.Stops.{StopsFor}
 use Rattle.syned_script.proofs.Stopping.{by-err}
 use Rattle.syned_script.proofs.KindsNamed.{all-left, one-named, all-named, not-free, stops-also}
