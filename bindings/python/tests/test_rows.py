@@ -64,7 +64,7 @@ class Rows(unittest.TestCase):
 
         def wrong(start):
             # Each thread begins at another row, so different scripts run at the same time.
-            return [path.name for path in scripts[start:] + scripts[:start] if not told(path)]
+            return [str(path) for path in scripts[start:] + scripts[:start] if not told(path)]
 
         with ThreadPoolExecutor(THREADS) as threads:
             starts = [len(scripts) * thread // THREADS for thread in range(THREADS)]
