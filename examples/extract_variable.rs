@@ -160,8 +160,8 @@ fn expression_at(root: &Element, range: &Range<usize>) -> Option<(Element, Eleme
     let kind = inner.kind()?;
     let is_statement = matches!(kind, Kind::ExprStmt | Kind::LetStmt);
     if inner.range()? == *range && !is_statement {
-        let is_part = !is_trivia(&kind) && is_part(&inner);
-        return is_part.then(|| (inner.clone(), inner));
+        let fits = is_end(&kind) && is_part(&inner);
+        return fits.then(|| (inner.clone(), inner));
     }
     let is_within = |it: &Element| {
         let own = it.range().unwrap_or_default();
@@ -170,21 +170,28 @@ fn expression_at(root: &Element, range: &Range<usize>) -> Option<(Element, Eleme
     let siblings: Vec<Element> = inner.children().filter(is_within).collect();
     let (first, last) = (siblings.first()?, siblings.last()?);
     let is_whole = first.range()?.start == range.start && last.range()?.end == range.end;
-    let has_ends = !is_trivia(&first.kind()?) && !is_trivia(&last.kind()?);
+    let has_ends = is_end(&first.kind()?) && is_end(&last.kind()?);
     let fits = is_whole && has_ends && siblings.iter().all(is_part);
     fits.then(|| (first.clone(), last.clone()))
 }
 
-// Whether an expression can have this as a part of it.
+// Whether an expression can begin or end with this.
+fn is_end(kind: &Kind) -> bool {
+    !is_trivia(kind) && !matches!(kind, Kind::Comma | Kind::Eq | Kind::Plus)
+}
+
+// Whether an expression can have this as a part of it: no statement, and no bracket without the other one.
 fn is_part(element: &Element) -> bool {
-    let others = [
-        Kind::Semicolon,
-        Kind::LetKw,
-        Kind::LetStmt,
-        Kind::ExprStmt,
-        Kind::SourceFile,
-    ];
-    element.kind().is_some_and(|kind| !others.contains(&kind))
+    use Kind::{ExprStmt, LetKw, LetStmt, Semicolon, SourceFile};
+    let kind = element.kind();
+    let is_bracket = kind
+        .as_ref()
+        .is_some_and(|kind| is_opening(kind) || is_closing(kind));
+    !is_bracket
+        && !matches!(
+            kind,
+            Some(ExprStmt | LetKw | LetStmt | Semicolon | SourceFile)
+        )
 }
 
 // The statement of a block that an element is in.

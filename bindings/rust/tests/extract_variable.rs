@@ -81,16 +81,22 @@ fn whitespace_that_the_editor_puts() {
 
 #[test]
 fn what_is_no_expression_of_a_block() {
-    let source = "fn f() {\n    let x = a + b;\n    c;\n}\nconst C: u8 = 1 + 2;\n";
+    let source = "fn f() {\n    let x = g(a + b);\n    c;\n}\nconst C: u8 = 1 + 2;\n";
     let at = |text: &str| {
         let start = source.find(text).unwrap();
         start..start + text.len()
     };
     for range in [
         at("a + "),
-        at(" a"),
+        at("+ b"),
+        at("+"),
+        at(" g(a + b)"),
+        at(" "),
         at("let x"),
-        at("a + b;"),
+        at("g(a + b);"),
+        at("a + b)"),
+        at("(a + b"),
+        at("("),
         at("c;"),
         at(";\n    c"),
         at("1 + 2"),
