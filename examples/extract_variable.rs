@@ -208,8 +208,10 @@ fn line_before(statement: &Element) -> Option<String> {
     let list = statement.parent()?;
     let before = list.children().take_while(|it| it != statement).last()?;
     let text = before.text()?;
+    let line = text.rfind('\n').unwrap_or(0);
+    let line = line - usize::from(text[..line].ends_with('\r'));
     let is_whitespace = before.kind() == Some(Kind::Whitespace);
-    is_whitespace.then(|| text[text.rfind('\n').unwrap_or(0)..].to_string())
+    is_whitespace.then(|| text[line..].to_string())
 }
 
 // `let NAME = EXPRESSION;`, and whitespace after it.

@@ -62,6 +62,7 @@ fn plain_text_edits_give_the_same() {
         check(text, "", line);
     }
     check("fn f() { ^<<a>> }", "", " ");
+    check("fn f() {\r\n  ^g(<<a>>);\r\n}\r\n", "", "\r\n  ");
     check(
         "fn f() {\n    if a {\n        ^<<b>>\n    }\n}",
         "",
