@@ -81,7 +81,7 @@ impl Parser<'_> {
             "let" => Kind::LetStmt,
             _ => Kind::ExprStmt,
         });
-        // What lies behind the last word is not a part of it.
+        // What lies behind its last word is no part of it.
         while self.next_word().is_some_and(|(kind, _)| !is_closing(kind)) {
             let pushed = self.next(0).cloned();
             self.push_element(&mut statement);
@@ -123,22 +123,22 @@ impl Parser<'_> {
 
     // Whether the next brackets are those of a block.
     fn is_block(&self) -> bool {
+        if self.next(0) != Some(&Kind::LCurly) {
+            return false;
+        }
         let (mut open, mut is_list) = (0, false);
         for (at, (kind, _)) in self.tokens[self.at..].iter().enumerate() {
             open += usize::from(is_opening(kind));
+            open -= usize::from(is_closing(kind));
             match kind {
-                Kind::Semicolon if open == 1 => break,
+                _ if open == 0 => break,
+                Kind::Semicolon if open == 1 => return true,
                 Kind::Comma if open == 1 => is_list = true,
                 Kind::Eq if open == 1 => is_list |= self.next(at + 1) == Some(&Kind::RAngle),
-                kind if is_closing(kind) && open == 1 => return !is_list && self.is_brace(),
-                kind => open -= usize::from(is_closing(kind)),
+                _ => {}
             }
         }
-        self.is_brace()
-    }
-
-    fn is_brace(&self) -> bool {
-        self.next(0) == Some(&Kind::LCurly)
+        !is_list
     }
 }
 
