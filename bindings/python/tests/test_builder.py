@@ -543,6 +543,9 @@ class Answers(unittest.TestCase):
         for _ in range(200):
             tree = random_tree(chance, 5)
             self.assertEqual(Edit.parse(f'text ""\nchanged\ntree {expression(tree)}\n').tree, tree)
+        deep = "(A " * 100000 + 'a"b"' + ")" * 100000
+        read = Edit.parse(f'text ""\nchanged\ntree {deep}\n').tree
+        self.assertEqual((read.text, expression(read)), ("b", deep))
 
 
 def random_tree(chance, depth):

@@ -16,9 +16,10 @@ sys.path.insert(0, str(Path(__file__).resolve().parents[3] / "examples"))
 COUNT = int(os.environ.get("SYNED_FILES", "40"))
 
 
-def needs(module):
+def needs(*modules):
     """Leaves a class of tests out if a module is not there."""
-    return unittest.skipUnless(importlib.util.find_spec(module), f"{module} is not installed")
+    missing = [module for module in modules if not importlib.util.find_spec(module)]
+    return unittest.skipIf(missing, f"not installed: {', '.join(missing)}")
 
 
 def sources():
@@ -123,7 +124,7 @@ class OfParso(Adapter, unittest.TestCase):
     tree, name = staticmethod(of_parso), "name"
 
 
-@needs("tree_sitter_python")
+@needs("tree_sitter", "tree_sitter_python")
 class OfTreeSitter(Adapter, unittest.TestCase):
     tree, name = staticmethod(of_tree_sitter), "identifier"
 
