@@ -52,7 +52,7 @@ def main():
     whole = [case.script for case in cases]
     every = whole + list(damaged(whole))
     write(folder, [program], every)
-    wide = [case.script for case in known.known("wide")]
+    wide = [case.script for case in known.known("wide", "spaced")]
     write(folder / "wide", [program, *known.WIDE], wide)
     print(f"bindings: {len(every)} scripts, {DAMAGED} of them damaged, and {len(wide)} of the wide dialect")
 

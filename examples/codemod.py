@@ -18,7 +18,7 @@ import parso
 from parso.python.tree import Operator
 
 sys.path.insert(0, str(Path(__file__).resolve().parents[1] / "bindings/python"))
-from syned import Element, Kind, Node, Script, SynedError, Tree, node, token
+from syned import Edit, Element, Kind, Node, Script, SynedError, Tree, node, token
 
 
 class Change(NamedTuple):
@@ -76,8 +76,8 @@ def arguments(name: Element) -> List[Element]:
     return [it for it in inside if it.kind not in (Kind.COMMA, Kind.WHITESPACE, Kind.COMMENT)]
 
 
-def changed(source: str, change: Change) -> str:
-    """The new text of a source."""
+def changed(source: str, change: Change) -> Edit:
+    """The edit of a source."""
     script = Script()
     root = script.edit(script.tree(tree_of(source)))
     new = script.tree(node("names", token("name", change.new)))[0]
@@ -86,7 +86,7 @@ def changed(source: str, change: Change) -> str:
         given = arguments(name)
         if change.drop is not None and change.drop < len(given):
             script.remove(given[change.drop], Kind.COMMA)
-    return script.finish().text
+    return script.finish()
 
 
 def diff(path: Path, old: str, new: str) -> str:
@@ -107,15 +107,15 @@ def main() -> int:
         try:
             # Newlines stay as they are.
             old = path.read_bytes().decode()
-            new = changed(old, Change(told.old, told.new, told.drop))
+            edit = changed(old, Change(told.old, told.new, told.drop))
         except (OSError, ValueError, SynedError) as error:
             print(f"{path}: {error}", file=sys.stderr)
             status = 1
             continue
-        if new != old:
-            sys.stdout.write(diff(path, old, new))
+        if edit.edits:
+            sys.stdout.write(diff(path, old, edit.text))
             if told.write:
-                path.write_bytes(new.encode())
+                path.write_bytes(edit.text.encode())
     return status
 
 

@@ -56,8 +56,10 @@ static uint8_t *add(uint8_t *out, const void *bytes, size_t length) {
     return out + length;
 }
 
-/* A field of an answer from its parts: the bytes of a text without its escapes, the numbers of a path, or a word. */
+/* A field of an answer from its parts: the bytes of a text without its escapes, the numbers of a path and its range, or a word. */
 static uint8_t *put_field(uint8_t *out, struct syned_bytes field) {
+    size_t start, end;
+    int has_range = syned_take_range(&field, &start, &end);
     uint8_t *text = malloc(field.length + 1);
     size_t length = text == NULL ? SYNED_NO_TEXT : syned_unescape(field, text, field.length);
     size_t child = 0;
@@ -76,7 +78,22 @@ static uint8_t *put_field(uint8_t *out, struct syned_bytes field) {
         out = add(out, field.start, field.length);
     }
     free(text);
-    return out;
+    return has_range ? out + sprintf((char *)out, "@%zu..%zu", start, end) : out;
+}
+
+/* Whether fields that have no range stay as they are. */
+static int are_without_range(void) {
+    static const char *const fields[] = {"", ".", "1/0", "0@", "0@1", "0@1.", "0@1..", "0@..2", "0@1...2", "0@1..2 ", "\"0@1..2\"",
+                                         "0@1..99999999999999999999"};
+    for (size_t at = 0; at < sizeof fields / sizeof *fields; at++) {
+        struct syned_bytes field = {(const uint8_t *)fields[at], strlen(fields[at])};
+        size_t start = 7, end = 7;
+        if (syned_take_range(&field, &start, &end) || !syned_is(field, fields[at]) || start != 7 || end != 7) {
+            printf("wrong: a range in %s\n", fields[at]);
+            return 0;
+        }
+    }
+    return 1;
 }
 
 /* Whether the lines, fields, texts and paths of an answer are what it consists of. */
@@ -91,6 +108,10 @@ static int is_taken_apart(struct bytes answer) {
         for (int first = 1; syned_next_field(&line, &field); first = 0) {
             out = first ? out : add(out, " ", 1);
             out = put_field(out, field);
+            if (first && syned_is(field, "tree")) {
+                out = add(add(out, " ", 1), line.start, line.length);
+                line.length = 0;
+            }
         }
         out = add(out, "\n", 1);
     }
@@ -165,5 +186,5 @@ int main(int count, char **arguments) {
         all.wrong += tallies[i].wrong;
     }
     printf("c: %zu of %zu answers as expected, on %d threads\n", all.right, all.right + all.wrong, THREADS);
-    return all.wrong != 0 || all.right == 0;
+    return all.wrong != 0 || all.right == 0 || !are_without_range();
 }

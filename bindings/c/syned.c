@@ -119,26 +119,59 @@ int syned_next_field(struct syned_bytes *rest, struct syned_bytes *part) {
     return 1;
 }
 
+/* How many digits bytes begin with, and the number that these are: 0 if there are none or it is too large. */
+static size_t read_number(struct syned_bytes bytes, size_t *number) {
+    size_t length = 0;
+    size_t read = 0;
+    for (; length < bytes.length && bytes.start[length] >= '0' && bytes.start[length] <= '9'; length++) {
+        size_t digit = (size_t)(bytes.start[length] - '0');
+        if (read > (SIZE_MAX - digit) / 10) {
+            return 0;
+        }
+        read = 10 * read + digit;
+    }
+    *number = read;
+    return length;
+}
+
 int syned_next_child(struct syned_bytes *rest, size_t *part) {
     if (syned_is(*rest, ".")) {
         rest->start++;
         rest->length = 0;
     }
-    size_t length = 0;
     size_t number = 0;
-    for (; length < rest->length && rest->start[length] != '/'; length++) {
-        size_t digit = (size_t)rest->start[length] - '0';
-        if (digit > 9 || number > (SIZE_MAX - digit) / 10) {
-            return 0;
-        }
-        number = 10 * number + digit;
-    }
-    if (length == 0) {
+    size_t length = read_number(*rest, &number);
+    if (length == 0 || (length < rest->length && rest->start[length] != '/')) {
         return 0;
     }
     struct syned_bytes taken;
     take(rest, length, &taken);
     *part = number;
+    return 1;
+}
+
+int syned_take_range(struct syned_bytes *field, size_t *start, size_t *end) {
+    size_t path = 0;
+    while (path < field->length && field->start[path] != '@') {
+        path++;
+    }
+    if (path == field->length) {
+        return 0;
+    }
+    struct syned_bytes rest = {field->start + path + 1, field->length - path - 1};
+    size_t first, last;
+    size_t length = read_number(rest, &first);
+    if (length == 0 || rest.length - length < 2 || memcmp(rest.start + length, "..", 2) != 0) {
+        return 0;
+    }
+    rest = (struct syned_bytes){rest.start + length + 2, rest.length - length - 2};
+    length = read_number(rest, &last);
+    if (length == 0 || length != rest.length) {
+        return 0;
+    }
+    field->length = path;
+    *start = first;
+    *end = last;
     return 1;
 }
 

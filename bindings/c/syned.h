@@ -55,10 +55,14 @@ size_t syned_unescape(struct syned_bytes field, uint8_t *room, size_t room_lengt
 
 /* Each of these takes the first part off `*rest`, puts it into `*part`, and gives whether there was one: the line of an answer, without its newline;
  * the field of a line (a text between quotes is one, with its quotes); the number of a child on a path, of which the path `.` of a root has none.
- * `syned_next_child` also gives 0 for what is no number, and then takes nothing off: `rest->length` is 0 exactly at the end of a path. */
+ * `syned_next_child` also gives 0 for what is no number, and then takes nothing off: `rest->length` is 0 exactly at the end of a path. It reads the
+ * two numbers of a line `edit` too. Of a line `tree` the expression is what is left behind the first field. */
 int syned_next_line(struct syned_bytes *rest, struct syned_bytes *part);
 int syned_next_field(struct syned_bytes *rest, struct syned_bytes *part);
 int syned_next_child(struct syned_bytes *rest, size_t *part);
+
+/* Takes the range off a field such as 1/0@8..9, of which the path is left, and gives whether it has one: without one nothing changes. */
+int syned_take_range(struct syned_bytes *field, size_t *start, size_t *end);
 
 /* Whether bytes are those of a word that ends with a zero. */
 int syned_is(struct syned_bytes bytes, const char *word);

@@ -15,7 +15,7 @@ A `Script` is made of trees and of changes against one of them. docs/SCRIPTS.md 
 >>> script.finish()
 Edit(text='(2, 1)', changed=((1,), (4,)), notes={})
 """
-from ._edit import Edit, ElementPath, carry_out
+from ._edit import Edit, ElementPath, TextEdit, apply_edits, carry_out, in_characters
 from ._errors import BadScript, Failed, NoLibrary, Refusal, Refused, SynedError
 from ._kind import Kind, kind_of, spelled
 from ._library import Dialect, Status, explain, library_version, run
@@ -40,10 +40,13 @@ __all__ = [
     "Script",
     "Status",
     "SynedError",
+    "TextEdit",
     "Token",
     "Tree",
+    "apply_edits",
     "carry_out",
     "explain",
+    "in_characters",
     "kind_of",
     "library_version",
     "node",

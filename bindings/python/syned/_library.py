@@ -8,7 +8,7 @@ from typing import Optional, Tuple
 
 from ._errors import NoLibrary
 
-# Room for the answer of a usual edit. An answer is about as long as the script, if that is long.
+# Room for the answer of a usual edit. One with the new tree is about twice as long as the script, if that is long.
 SPARE_ROOM = 1024
 SENTENCE_ROOM = 512
 
@@ -103,7 +103,7 @@ def run(script: bytes, dialect: Dialect = Dialect.SYNED) -> Tuple[Status, bytes]
     _check(script)
     library = _library()
     call = library.syned_run if dialect == Dialect.SYNED else library.syned_run_wide
-    length = ctypes.c_size_t(len(script) + SPARE_ROOM)
+    length = ctypes.c_size_t(2 * len(script) + SPARE_ROOM)
     while True:
         room_length = length.value
         room = ctypes.create_string_buffer(room_length)

@@ -1,13 +1,13 @@
 """Scripts, written line by line."""
 import re
 from dataclasses import dataclass
-from typing import Dict, Iterable, Iterator, List, Optional, Set, Tuple
+from typing import Callable, Dict, Iterable, Iterator, List, Optional, Set, Tuple
 
 from ._edit import Edit, carry_out
 from ._errors import SynedError
 from ._kind import Kind, kind_of, written
 from ._library import Dialect
-from ._tree import Node, Tree, children_of, expression, kinds_of
+from ._tree import Node, Token, Tree, children_of, dedented, expression, indented, kinds_of, with_tokens
 
 _WORD = re.compile("[A-Za-z][A-Za-z0-9_]{0,31}")
 
@@ -229,7 +229,7 @@ class Script:
 
     A line isn't carried out when it is recorded: `finish` carries out all, and raises what docs/SCRIPTS.md calls a
     refusal or a bad line. It leaves the script as it is, which can go on, and be finished again. `str(script)` is the
-    script as it is so far, `bytes(script)` what `finish` carries out.
+    script as it is so far, `bytes(script)` what `finish()` carries out.
 
     What records a line gives its number, counted from 1, as errors name it; `take_back` takes such a line back.
 
@@ -261,7 +261,11 @@ class Script:
         return "".join(f"{line}\n" for line in self._lines)
 
     def __bytes__(self) -> bytes:
-        return f"{self}finish\n".encode()
+        return self._finished("edits", "ranges")
+
+    def _finished(self, *shown: str) -> bytes:
+        """The script with its end. The answer has these parts besides."""
+        return "".join((str(self), *(f"show {part}\n" for part in shown), "finish\n")).encode()
 
     def _name(self, kinds: Iterable[str]) -> None:
         """Has the first line name these kinds, where it has to."""
@@ -312,10 +316,44 @@ class Script:
         if not isinstance(tree, Node):
             raise TypeError("the root of a tree is a node")
         self._name(kinds_of(tree))
-        name = f"T{self._trees}"
+        return self._root(f"tree T{self._trees} {expression(tree)}", tree)
+
+    def _root(self, line: str, tree: Node) -> Element:
+        """The root of the next tree, which this line makes."""
+        self._lines.append(line)
+        root = Element(self, f"T{self._trees}", (), tree)
         self._trees += 1
-        self._lines.append(f"tree {name} {expression(tree)}")
-        return Element(self, name, (), tree)
+        return root
+
+    def indent(self, node: Element) -> Element:
+        """Makes a tree of a node, a level further in, and returns its root: each whitespace token with a newline ends
+        with four spaces more.
+
+        >>> from syned import Kind, Script, node, token
+        >>> script = Script()
+        >>> lines = script.tree(node(Kind.BLOCK_EXPR, token(Kind.L_CURLY, "{"), token(Kind.WHITESPACE, "\\n")))
+        >>> script.indent(lines).text
+        '{\\n    '
+        """
+        return self._shifted("indent", node, indented)
+
+    def dedent(self, node: Element) -> Element:
+        """The same a level further out: four spaces are taken after each newline of a whitespace token, where there
+        are as many.
+
+        >>> from syned import Kind, Script, node, token
+        >>> script = Script()
+        >>> lines = script.tree(node(Kind.BLOCK_EXPR, token(Kind.WHITESPACE, "\\n  \\n        ")))
+        >>> script.dedent(lines).text
+        '\\n  \\n    '
+        """
+        return self._shifted("dedent", node, dedented)
+
+    def _shifted(self, word: str, node: Element, shift: Callable[[Token], Token]) -> Element:
+        line = self._line(f"{word} T{self._trees}", node)
+        if not isinstance(node.tree, Node):
+            raise TypeError("the root of a tree is a node")
+        return self._root(line, with_tokens(node.tree, shift))
 
     def edit(self, target: Element) -> Element:
         """Starts the edit of a node, and returns the root that the changes refer to.
@@ -364,6 +402,19 @@ class Script:
         'a,b'
         """
         return self._record(self._line(f"insert {position.where}", position.element, element, *more))
+
+    def insert_with_whitespace(self, position: Position, element: Element, *more: Element) -> int:
+        """Inserts elements, in this order, with whitespace before and after them where their neighbors ask for it.
+
+        >>> from syned import Kind, Position, Script, node, token
+        >>> script = Script()
+        >>> root = script.edit(script.tree(node(Kind.TUPLE_EXPR, token(Kind.IDENT, "a"), token(Kind.COMMA, ","))))
+        >>> script.insert_with_whitespace(Position.first(root), root[0])
+        4
+        >>> script.finish().text
+        'a a,'
+        """
+        return self._record(self._line(f"spaced {position.where}", position.element, element, *more))
 
     def delete(self, element: Element) -> int:
         """Deletes an element.
@@ -472,16 +523,23 @@ class Script:
             return error
         return None
 
-    def finish(self) -> Edit:
+    def finish(self, tree: bool = False) -> Edit:
         """Carries out the script. Raises `Refused`, `BadScript` or `Failed` if there is no edit.
 
-        >>> from syned import Kind, Script, node
+        The edit has text edits and ranges, and the new tree if that is asked for: its answer is about twice as long.
+
+        >>> from syned import Kind, Script, node, token
         >>> script = Script()
-        >>> root = script.edit(script.tree(node(Kind.SOURCE_FILE)))
+        >>> root = script.edit(script.tree(node(Kind.NAME, token(Kind.IDENT, "a"), token(Kind.IDENT, "b"))))
+        >>> line = script.delete(root[0])
+        >>> edit = script.finish(tree=True)
+        >>> edit.edits, edit.tree
+        ((TextEdit(start=0, end=1, text=''),), <Node NAME of 1 bytes>)
         >>> line = script.delete(root)
         >>> script.finish()
         Traceback (most recent call last):
             ...
-        syned._errors.Refused: refused DeletesRoot: the root of the edited tree cannot be deleted; ...: line 4
+        syned._errors.Refused: refused DeletesRoot: the root of the edited tree cannot be deleted; ...: line 5
         """
-        return carry_out(bytes(self), Dialect.WIDE)
+        script = self._finished("edits", "ranges", "tree") if tree else bytes(self)
+        return carry_out(script, Dialect.WIDE)

@@ -1,11 +1,14 @@
 """Trees, before a script has them."""
 import re
 from dataclasses import dataclass, field
-from typing import Callable, Iterable, Iterator, List, Optional, Tuple, TypeVar, Union
+from typing import Callable, Iterable, Iterator, List, Match, Optional, Tuple, TypeVar, Union
 
 from ._kind import Kind, kind_of, spelled, written
 
 _ESCAPES = str.maketrans({"\n": "\\n", "\r": "\\r", "\t": "\\t", '"': '\\"', "\\": "\\\\"})
+_PLAIN = {escaped: chr(plain) for plain, escaped in _ESCAPES.items()}
+# A level of indentation.
+_LEVEL = "    "
 
 N = TypeVar("N")
 Range = Tuple[int, int]
@@ -167,6 +170,80 @@ def expression(tree: Tree) -> str:
                 rest.append(child)
                 rest.append(" ")
     return "".join(written)
+
+
+def unescaped(text: str) -> str:
+    """The text that is written so between two quotes. A ValueError if none is."""
+
+    def plain(found: Match[str]) -> str:
+        if found.group() not in _PLAIN:
+            raise ValueError(f"{found.group()!r} in a text between quotes")
+        return _PLAIN[found.group()]
+
+    return re.sub(r'\\.?|"', plain, text, flags=re.DOTALL)
+
+
+# The beginning of a node, a token, or the end of a node.
+_PART = re.compile(r' *(?:\((\w+)|(\w+)"([^"\\]*(?:\\.[^"\\]*)*)"|\))', re.ASCII | re.DOTALL)
+
+
+def read_expression(text: str) -> Node:
+    """The tree of a tree expression, a ValueError if it is none. Without recursion, as `expression` is written."""
+    above: List[Tuple[str, List[Tree]]] = []
+    kind, at = "", 0
+    made: List[Tree] = []
+    while at < len(text):
+        found = _PART.match(text, at)
+        if found is None or not (above or at == 0):
+            raise ValueError(f"no part of a tree expression is at {at}")
+        at = found.end()
+        opens, token_kind, quoted = found.groups()
+        if opens is not None:
+            above.append((kind, made))
+            kind, made = opens, []
+        elif token_kind is not None:
+            made.append(Token(token_kind, unescaped(quoted)))
+        elif above:
+            closed = Node(kind, tuple(made))
+            kind, made = above.pop()
+            made.append(closed)
+    if above or len(made) != 1 or not isinstance(made[0], Node):
+        raise ValueError("no whole tree expression")
+    return made[0]
+
+
+def indented(token: Token) -> Token:
+    """A token further in: a line that begins in it gets a level more."""
+    return Token(token.kind, token.text + _LEVEL) if _breaks_line(token) else token
+
+
+def dedented(token: Token) -> Token:
+    """A token further out: each line that begins in it gets a level less, where it has one."""
+    return Token(token.kind, token.text.replace("\n" + _LEVEL, "\n")) if _breaks_line(token) else token
+
+
+def _breaks_line(token: Token) -> bool:
+    return token.kind == Kind.WHITESPACE and "\n" in token.text
+
+
+def with_tokens(tree: Node, change: Callable[[Token], Token]) -> Node:
+    """A tree with other tokens. What stays is shared. Without recursion."""
+    opened: List[Tuple[Node, List[Tree]]] = [(tree, [])]
+    while True:
+        old, made = opened[-1]
+        if len(made) < len(old.children):
+            child = old.children[len(made)]
+            if isinstance(child, Node):
+                opened.append((child, []))
+            else:
+                made.append(change(child) if isinstance(child, Token) else child)
+            continue
+        is_same = all(before is after for before, after in zip(old.children, made))
+        opened.pop()
+        new = old if is_same else Node(old.kind, tuple(made))
+        if not opened:
+            return new
+        opened[-1][1].append(new)
 
 
 _PIECES = re.compile(r"(?P<WHITESPACE>\s+)|(?P<COMMENT>(?:#|//)[^\r\n]*)|(?P<word>\w+)|(?P<sign>.)", re.DOTALL)

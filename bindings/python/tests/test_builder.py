@@ -1,4 +1,5 @@
 """What the builder writes and gets back: each line word, and each refusal. The answers are worked by hand."""
+import random
 import re
 import tempfile
 import unittest
@@ -7,23 +8,30 @@ from unittest import mock
 
 from syned import (
     BadScript,
+    Dialect,
     Edit,
     Failed,
     Kind,
     NoLibrary,
+    Node,
     Position,
     Refusal,
     Refused,
     Script,
     Status,
     SynedError,
+    TextEdit,
     _edit,
     _library,
+    apply_edits,
+    carry_out,
     explain,
+    in_characters,
     node,
     run,
     token,
 )
+from syned._tree import expression
 
 ROOT = Path(__file__).resolve().parents[3]
 
@@ -50,6 +58,14 @@ def begun(tree=ARGUMENTS):
     """A script that edits this tree, and the root that its changes refer to."""
     script = Script()
     return script, script.edit(script.tree(tree))
+
+
+def below(root):
+    """An element and all below it."""
+    found = [root]
+    for element in found:
+        found += element.children
+    return found
 
 
 def words(script, *texts):
@@ -100,6 +116,34 @@ class LineWords(unittest.TestCase):
         )
         # a ( 1 c , ' ' 2 d e ) b
         self.assertEqual(script.finish(), Edit("a(1c, 2de)b", ((0,), (3,), (7,), (8,), (10,)), {}))
+
+    def test_insert_with_whitespace(self):
+        script, root = begun()
+        (a,) = words(script, "a")
+        script.insert_with_whitespace(Position.after(root[2]), a)
+        script.insert_with_whitespace(Position.first(root[4]), a, root[1])
+        self.assertEqual(str(script).split("\n")[4:6], ["spaced after R/2 T1/0", "spaced first R/4 T1/0 R/1"])
+        # ( 1 , ' ' a ' ' [a 1 ' ' 2] ): after the first `a` stands whitespace already.
+        changed = ((3,), (4,), (6, 0), (6, 1), (6, 2))
+        self.assertEqual(script.finish(), Edit("(1, a a1 2)", changed, {}))
+
+    def test_indent_and_dedent(self):
+        script = Script()
+        lines = token(Kind.WHITESPACE, "\n  \n    ")
+        inner = node(Kind.STMT_LIST, lines, token(Kind.COMMENT, "/*\n    */"), token(Kind.WHITESPACE, " "))
+        block = script.tree(node(Kind.BLOCK_EXPR, inner, node(Kind.LITERAL), lines))
+        further = script.indent(block[0])
+        back = script.dedent(further)
+        out = script.dedent(block)
+        self.assertEqual(str(script).split("\n")[2:5], ["indent T1 T0/0", "dedent T2 T1", "dedent T3 T0"])
+        self.assertEqual(further.text, "\n  \n        /*\n    */ ")
+        self.assertEqual((back.text, back.tree), (block[0].text, block[0].tree))
+        self.assertEqual(out.text, "\n  \n/*\n    */ \n  \n")
+        # What has no line is shared.
+        self.assertIs(out[1].tree, block[1].tree)
+        root = script.edit(further)
+        script.replace(root[0], out, back)
+        self.assertEqual(script.finish().text, out.text + back.text + further.text[len("\n  \n        ") :])
 
     def test_delete(self):
         script, root = begun()
@@ -153,7 +197,8 @@ class LineWords(unittest.TestCase):
     def test_finish(self):
         script, _ = begun()
         script.finish()
-        self.assertTrue(bytes(script).endswith(b"edit R T0\nfinish\n"))
+        self.assertEqual(bytes(script), b"%sshow edits\nshow ranges\nfinish\n" % str(script).encode())
+        self.assertEqual(carry_out(bytes(script), Dialect.WIDE), script.finish())
 
 
 class Refusals(unittest.TestCase):
@@ -305,8 +350,9 @@ class Mistakes(unittest.TestCase):
         for _ in range(5000):
             tree = node(Kind.TUPLE_EXPR, tree)
         script, root = begun(tree)
-        script.insert(Position.last(root), root.at([0] * 5001))
-        self.assertEqual(script.finish().text, 2 * "x" * 1048576)
+        script.insert(Position.last(root), script.indent(root).at([0] * 5001))
+        edit = script.finish(tree=True)
+        self.assertEqual((edit.text, edit.tree.length), (2 * "x" * 1048576, 2 * 1048576))
 
     def test_kinds_of_its_own(self):
         script, root = begun(node("call", token("name", "f"), node("arguments", token(Kind.COMMA, ","), token("name", "a"))))
@@ -347,6 +393,11 @@ class Mistakes(unittest.TestCase):
         for make in (lambda: script.remove(root[1], 1), lambda: script.tree(token(Kind.IDENT, "a"))):
             with self.assertRaises(TypeError):
                 make()
+        for shift in (script.indent, script.dedent):
+            with self.assertRaises(TypeError):
+                shift(root[0])
+            with self.assertRaises(ValueError):
+                shift(begun()[1])
         self.assertEqual(script.finish(), Edit("(1, 2)", (), {}))
 
 
@@ -379,6 +430,7 @@ class Mending(unittest.TestCase):
         taken = [
             script.map(block, root[1], block[1]),
             script.insert(Position.first(root), root[0]),
+            script.insert_with_whitespace(Position.first(root), root[0]),
             script.delete(root[2]),
             script.replace(root[3], root[0]),
             script.range(root[0], root[1], root[4]),
@@ -386,13 +438,141 @@ class Mending(unittest.TestCase):
             script.note("word", root),
             script.order(0, 1),
         ]
-        self.assertEqual(taken, list(range(5, 13)))
+        self.assertEqual(taken, list(range(5, 14)))
+        script.indent(root)
         for line in taken:
             script.take_back(line)
         self.assertEqual(script.finish(), Edit("(1, 2)", (), {}))
-        for line in (0, 1, 2, 3, 4, 5, 13, -1):
+        for line in (0, 1, 2, 3, 4, 5, 14, 15, -1):
             with self.assertRaises(ValueError):
                 script.take_back(line)
+
+
+class Answers(unittest.TestCase):
+    """What is told of an edit, and what is no answer."""
+
+    def assert_whole(self, old, edit):
+        """The edits of the old text give the new one, the tree is its tree, and each path has the range of its element."""
+        new = edit.text.encode()
+        self.assertEqual(apply_edits(edit.edits, old.encode()), new)
+        self.assertEqual(apply_edits(edit.edits, old), edit.text)
+        self.assertEqual(edit.tree.text, edit.text)
+        self.assertEqual(set(edit.ranges), {*edit.changed}.union(*edit.notes.values()))
+        root = Script().tree(edit.tree)
+        for path, (start, end) in edit.ranges.items():
+            self.assertEqual((root.at(path).range, new[start:end].decode()), ((start, end), root.at(path).text))
+
+    def test_by_hand(self):
+        script, root = begun(node(Kind.NAME, token(Kind.IDENT, "é"), token(Kind.IDENT, "b"), token(Kind.IDENT, "c")))
+        script.note("last", root[2])
+        script.note("root", root)
+        script.replace(root[1], *words(script, "ö", "\t"))
+        edit = script.finish(tree=True)
+        self.assertEqual(edit.edits, (TextEdit(2, 3, "ö\t"),))
+        self.assertEqual(edit.ranges, {(1,): (2, 4), (2,): (4, 5), (3,): (5, 6), (): (0, 6)})
+        texts = (token(Kind.IDENT, text) for text in ("é", "ö", "\t", "c"))
+        self.assertEqual(edit.tree, node(Kind.NAME, *texts))
+        self.assertEqual(in_characters(edit.edits, root.text), ((1, 2, "ö\t"),))
+        self.assert_whole(root.text, edit)
+        plain = script.finish()
+        self.assertEqual((plain, plain.edits, plain.ranges, plain.tree), (edit, edit.edits, edit.ranges, None))
+        self.assertLess(len(repr(edit)), 120)
+
+    def test_random_edits(self):
+        chance = random.Random(1)
+        done = refused = 0
+        for _ in range(300):
+            script, root = begun(random_tree(chance, 3))
+            new = below(script.tree(random_tree(chance, 2))) + below(script.indent(root))
+            for word in "abcdef"[: chance.randrange(6)]:
+                random_change(chance, script, word, below(root), new)
+            try:
+                edit = script.finish(tree=True)
+            except Refused as error:
+                refused += 1
+                # A refusal is the same whatever is asked for, but for the number of a last line.
+                plain = script.check()
+                self.assertEqual((plain.refusal, plain.changes), (error.refusal, error.changes))
+                continue
+            done += 1
+            self.assert_whole(root.text, edit)
+            self.assertEqual(script.finish(), edit)
+        self.assertTrue(done > 100 and refused > 10, (done, refused))
+
+    def test_trees_further_in_are_those_of_the_program(self):
+        chance = random.Random(2)
+        for _ in range(50):
+            script = Script()
+            tree = script.tree(random_tree(chance, 4))
+            for shift in chance.choices([script.indent, script.dedent], k=3):
+                tree = shift(tree)
+            script.edit(tree)
+            edit = script.finish(tree=True)
+            self.assertEqual((edit.text, edit.tree), (tree.text, tree.tree))
+
+    def test_edits_that_are_none_of_a_text(self):
+        for edits in ([(1, 0)], [(0, 4)], [(0, 2), (0, 2)], [(2, 3), (0, 2)], [(4, 4)]):
+            for source in ("éa", b"\xc3\xa9a"):
+                with self.assertRaises(ValueError):
+                    apply_edits([TextEdit(start, end, "") for start, end in edits], source)
+        for edits in ([(1, 2)], [(0, 1)], [(1, 3)]):
+            with self.assertRaises(ValueError):
+                in_characters([TextEdit(start, end, "") for start, end in edits], "éa")
+        self.assertEqual(apply_edits([], b""), b"")
+        self.assertEqual(apply_edits([TextEdit(1, 1, "x"), TextEdit(1, 1, "y"), TextEdit(1, 2, "")], "ab"), "axy")
+
+    def test_answers_of_other_formats(self):
+        begins = ("", "text", 'text ""', 'text ""\n', 'text ""\nchange\n', 'text ""\nchangedx\n', 'text ""\nchanged')
+        texts = ('text "\\x"\nchanged\n', 'text "\\"\nchanged\n', 'text """\nchanged\n', "text \nchanged\n")
+        places = ("a", "", "0/", "/0", "-1", "0@", "0@1", "0@1..", "0@..1", "@0..1", "0@1...2", ".0", "0 ", "0  1", "٣")
+        for answer in (*begins, *texts, *(f'text ""\nchanged {place}\n' for place in places)):
+            with self.assertRaises(ValueError, msg=answer):
+                Edit.parse(answer)
+        edits = ("edit", "edit 1 2", "edit 1 2 x", 'edit 1 2 "', 'edit 1 2 "\\"', 'edit 1 2 """', 'edit a 2 ""', 'edit 1  2 ""')
+        trees = (
+            "tree", "tree ", "tree A", 'tree A"a"', "tree ()", "tree (A", "tree (A))", "tree (A) (A)", "tree (A) ", "tree )",
+            'tree (A a)', 'tree (A a"\\x")', 'tree (A a")', "tree (A -)", 'tree (A a "b")', "tree (é)",
+        )
+        others = ("notes w", "note w ", "note", "note w a", "", "tree (A)\ntree (A)", 'tree (A)\nedit 0 0 ""', "tree (A)\nnote w")
+        for line in (*edits, *trees, *others, 'edit 0 0 ""\nnote w'):
+            with self.assertRaises(ValueError, msg=line):
+                Edit.parse(f'text ""\nchanged\n{line}\n')
+
+    def test_trees_come_back(self):
+        chance = random.Random(3)
+        for _ in range(200):
+            tree = random_tree(chance, 5)
+            self.assertEqual(Edit.parse(f'text ""\nchanged\ntree {expression(tree)}\n').tree, tree)
+        deep = "(A " * 100000 + 'a"b"' + ")" * 100000
+        read = Edit.parse(f'text ""\nchanged\ntree {deep}\n').tree
+        self.assertEqual((read.text, expression(read)), ("b", deep))
+
+
+def random_tree(chance, depth):
+    """A tree whose tokens have escapes, whitespace with lines, and nothing."""
+    texts = ("a", "é", "\n", "\n    ", " ", "\t\"\\", "", "\r\n      ", "𝄞x")
+    kinds = ("WHITESPACE", "WHITESPACE", "IDENT", "LET_STMT", "STMT_LIST", "L_CURLY", "COMMA", "USE", "own")
+    children = []
+    for _ in range(chance.randrange(1, 5)):
+        is_node = depth > 0 and chance.random() < 0.5
+        children.append(random_tree(chance, depth - 1) if is_node else token(chance.choice(kinds), chance.choice(texts)))
+    return node(chance.choice(kinds), *children)
+
+
+def random_change(chance, script, word, old, new):
+    """Records a change of some of the old elements, with some of the new ones."""
+    target, other, *given = chance.choice(old), chance.choice(old), *chance.choices(old + new, k=chance.randrange(1, 3))
+    where = Position.last(target) if isinstance(target.tree, Node) else Position.after(target)
+    record = chance.choice((
+        lambda: script.insert(where, *given),
+        lambda: script.insert_with_whitespace(where, *given),
+        lambda: script.replace(target, *given),
+        lambda: script.delete(target),
+        lambda: script.range(target, other, *given),
+        lambda: script.remove(target, Kind.COMMA),
+    ))
+    record()
+    script.note(word, chance.choice((target, *given)))
 
 
 class Elements(unittest.TestCase):

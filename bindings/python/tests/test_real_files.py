@@ -1,4 +1,4 @@
-"""Files of Python's standard library as trees of two parsers: their texts come back, and edits are those of plain text.
+"""Files of Python's standard library as trees of several parsers: their texts come back, and edits are those of plain text.
 
 SYNED_FILES says how many files are read, 40 if it is not there. Those that are no UTF-8 or no Python are left out."""
 import ast
@@ -10,10 +10,16 @@ import sysconfig
 import unittest
 from pathlib import Path
 
-from syned import Kind, Script, Tree, pieces
+from syned import Kind, Script, Tree, apply_edits, node, pieces, token
 
 sys.path.insert(0, str(Path(__file__).resolve().parents[3] / "examples"))
 COUNT = int(os.environ.get("SYNED_FILES", "40"))
+
+
+def needs(*modules):
+    """Leaves a class of tests out if a module is not there."""
+    missing = [module for module in modules if not importlib.util.find_spec(module)]
+    return unittest.skipIf(missing, f"not installed: {', '.join(missing)}")
 
 
 def sources():
@@ -62,11 +68,30 @@ def of_ast(source):
     )
 
 
-class Adapters(unittest.TestCase):
+def of_parso(source):
+    import codemod
+
+    return codemod.tree_of(source.decode())
+
+
+def of_tree_sitter(source):
+    import tree_sitter
+    import tree_sitter_python
+
+    parser = tree_sitter.Parser(tree_sitter.Language(tree_sitter_python.language()))
+    return Tree.from_nodes(
+        source, parser.parse(source).root_node, kind=lambda found: found.type, children=lambda found: found.children,
+        range=lambda found: (found.start_byte, found.end_byte),
+    )
+
+
+class Adapter:
+    """What holds of the trees that are made of any parser's: `tree` makes one, and `name` is the kind of a name there."""
+
     def test_texts_come_back(self):
         for path, source in sources():
             with self.subTest(path):
-                tree = of_ast(source)
+                tree = self.tree(source)
                 self.assertEqual(tree.text.encode(), source)
                 self.assertEqual(tree.length, len(source))
 
@@ -74,16 +99,37 @@ class Adapters(unittest.TestCase):
         for path, source in sources():
             with self.subTest(path):
                 script = Script()
-                root = script.edit(script.tree(of_ast(source)))
-                new = script.tree(Tree.from_nodes("n", "", kind=str, children=lambda _: (), range=lambda _: (0, 1)))
-                found = [it for it in below(root) if it.kind == "Name"][::7]
+                root = script.edit(script.tree(self.tree(source)))
+                new = script.tree(node("names", token("name", "n")))
+                found = [it for it in below(root) if it.kind == self.name][::7]
                 for name in found:
                     script.replace(name, new[0])
                 wanted = source
-                for start, end in sorted((name.range for name in found), reverse=True):
+                places = sorted(name.range for name in found)
+                for start, end in reversed(places):
                     wanted = wanted[:start] + b"n" + wanted[end:]
-                self.assertEqual(script.finish().text.encode(), wanted)
+                edit = script.finish()
+                self.assertEqual(edit.text.encode(), wanted)
+                self.assertEqual([it[:2] for it in edit.edits], places)
+                self.assertEqual(apply_edits(edit.edits, source), wanted)
+                self.assertEqual({wanted[start:end] for start, end in edit.ranges.values()}, {b"n"} if found else set())
 
+
+class OfAst(Adapter, unittest.TestCase):
+    tree, name = staticmethod(of_ast), "Name"
+
+
+@needs("parso")
+class OfParso(Adapter, unittest.TestCase):
+    tree, name = staticmethod(of_parso), "name"
+
+
+@needs("tree_sitter", "tree_sitter_python")
+class OfTreeSitter(Adapter, unittest.TestCase):
+    tree, name = staticmethod(of_tree_sitter), "identifier"
+
+
+class Adapters(unittest.TestCase):
     def test_what_is_refused(self):
         def tree(*places):
             nodes = {"at": (0, 9), "in": [{"at": at} for at in places]}
@@ -114,7 +160,7 @@ class Adapters(unittest.TestCase):
         self.assertEqual([kind for kind, _ in pieces("a, (")], ["WORD", Kind.COMMA, Kind.WHITESPACE, Kind.L_PAREN])
 
 
-@unittest.skipUnless(importlib.util.find_spec("parso"), "parso is not installed")
+@needs("parso")
 class Codemods(unittest.TestCase):
     """The example `codemod.py`, beside plain text edits at the places of the same elements."""
 
@@ -130,7 +176,9 @@ class Codemods(unittest.TestCase):
                 root = script.tree(codemod.tree_of(text))
                 self.assertEqual(root.text, text)
                 wanted = self.plain(text, root, name)
-                self.assertEqual(codemod.changed(text, codemod.Change(name, "renamed", 0)), wanted)
+                edit = codemod.changed(text, codemod.Change(name, "renamed", 0))
+                self.assertEqual(edit.text, wanted)
+                self.assertEqual(apply_edits(edit.edits, text), wanted)
                 done += 1
         self.assertEqual(done, COUNT)
 

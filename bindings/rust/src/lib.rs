@@ -1,7 +1,7 @@
 //! Edits of syntax trees: a safe wrapper of the library `syned`.
 //!
 //! A [`Script`] gets trees, then one edit with its changes; [`Editing::finish`] carries all changes out at once, and
-//! gives the new text with the paths of what changed, or an [`Error`] that says why not.
+//! gives the new text, the edits of the old text and the paths of what changed, or an [`Error`] that says why not.
 //!
 //! ```
 //! use syned::{Kind, Script, Tree};
@@ -21,6 +21,8 @@
 //! let edit = editing.finish()?;
 //! assert_eq!(edit.text, "(2, 1)");
 //! assert_eq!(edit.changed, [[1], [4]]);
+//! assert_eq!(edit.ranges[&[1][..]], 1..2);
+//! assert_eq!(syned::apply(&edit.edits, "(1, 2, 3)"), Some(edit.text));
 //! # Ok::<(), syned::Error>(())
 //! ```
 //!
@@ -42,7 +44,7 @@ mod run;
 mod script;
 mod tree;
 
-pub use answer::{edit, edit_for, Edit, Note, Path};
+pub use answer::{apply, edit, edit_for, Edit, Note, Path, TextEdit};
 pub use error::{Error, Refusal};
 pub use kind::{Kind, OwnKind};
 pub use nodes::{pieces, SourceNode};

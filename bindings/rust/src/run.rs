@@ -55,8 +55,12 @@ pub fn run(script: &[u8]) -> (Status, Vec<u8>) {
 /// assert_eq!(run_for(Dialect::Wide, script), (Status::Done, b"text \"\"\nchanged\n".to_vec()));
 /// ```
 pub fn run_for(dialect: Dialect, script: &[u8]) -> (Status, Vec<u8>) {
-    // An answer is seldom longer than its script.
-    run_with_guess(dialect, script, script.len().saturating_add(64))
+    // An answer with the new tree is about twice as long as its script.
+    run_with_guess(
+        dialect,
+        script,
+        script.len().saturating_mul(2).saturating_add(64),
+    )
 }
 
 /// Why a script has no edit, in a sentence for people to read; `None` if it has one. The sentences may change.

@@ -264,6 +264,34 @@ impl Script {
         self.lines.tree(tree)
     }
 
+    /// Makes a tree of a node, a level further in, and gives its root: each whitespace token with a newline ends with four
+    /// spaces more.
+    ///
+    /// ```
+    /// use syned::{Kind, Script, Tree};
+    ///
+    /// let lines = Tree::new(Kind::BlockExpr).token(Kind::LCurly, "{").token(Kind::Whitespace, "\n");
+    /// let mut script = Script::new();
+    /// let block = script.tree(&lines)?;
+    /// let further = script.indent(&block)?;
+    /// assert_eq!(further.text().as_deref(), Some("{\n    "));
+    /// assert_eq!(script.dedent(&further)?.text(), block.text());
+    /// # Ok::<(), syned::Error>(())
+    /// ```
+    ///
+    /// Errors: [`Error::NoElement`], [`Error::NotANode`], [`Error::OtherScript`], [`Error::TooLong`].
+    pub fn indent(&mut self, node: &Element) -> Result<Element, Error> {
+        self.lines.indent(node)
+    }
+
+    /// The same a level further out: four spaces are taken after each newline of a whitespace token, where there are as
+    /// many.
+    ///
+    /// Errors: as for [`indent`](Script::indent).
+    pub fn dedent(&mut self, node: &Element) -> Result<Element, Error> {
+        self.lines.dedent(node)
+    }
+
     /// Begins the edit of a node. The elements to be changed are those below [`Editing::root`].
     ///
     /// Errors: [`Error::NoElement`], [`Error::NotANode`], [`Error::OtherScript`], [`Error::TooLong`].
@@ -302,6 +330,16 @@ impl Editing {
         self.lines.tree(tree)
     }
 
+    /// Makes a tree of a node as [`Script::indent`] does.
+    pub fn indent(&mut self, node: &Element) -> Result<Element, Error> {
+        self.lines.indent(node)
+    }
+
+    /// Makes a tree of a node as [`Script::dedent`] does.
+    pub fn dedent(&mut self, node: &Element) -> Result<Element, Error> {
+        self.lines.dedent(node)
+    }
+
     /// `map`: says that `copy`, a child of the node `parent`, is a copy of `node`. If a change replaces `node` by a
     /// node that contains `copy`, changes inside `node` move into `copy`.
     ///
@@ -334,10 +372,43 @@ impl Editing {
         position: Position<'_>,
         elements: &[Element],
     ) -> Result<usize, Error> {
-        let mut line = Line::new("insert");
-        line.position(&self.lines, position)?;
-        line.elements(&self.lines, elements)?;
-        self.lines.push(line)
+        self.lines.insert("insert", position, elements)
+    }
+
+    /// `spaced` of one element: `insert` with whitespace before and after it where its neighbors ask for it.
+    ///
+    /// ```
+    /// use syned::{Kind, Position, Script, Tree};
+    ///
+    /// let mut script = Script::new();
+    /// let block = Tree::new(Kind::StmtList).token(Kind::LCurly, "{").token(Kind::RCurly, "}");
+    /// let block = script.tree(&block)?;
+    /// let statement = script.tree(&Tree::new(Kind::ExprStmt).token(Kind::Ident, "a"))?;
+    /// let mut editing = script.edit(&block)?;
+    /// let brace = editing.root().child(0);
+    /// editing.insert_with_whitespace(Position::After(&brace), &statement)?;
+    /// assert_eq!(editing.finish()?.text, "{\n    a }");
+    /// # Ok::<(), syned::Error>(())
+    /// ```
+    ///
+    /// Errors: also [`Error::NotANode`] and [`Error::BesideRoot`], for the position.
+    pub fn insert_with_whitespace(
+        &mut self,
+        position: Position<'_>,
+        element: &Element,
+    ) -> Result<usize, Error> {
+        self.insert_all_with_whitespace(position, std::slice::from_ref(element))
+    }
+
+    /// `spaced` of several elements, in order. Of none it is a change too.
+    ///
+    /// Errors: also [`Error::NotANode`] and [`Error::BesideRoot`], for the position.
+    pub fn insert_all_with_whitespace(
+        &mut self,
+        position: Position<'_>,
+        elements: &[Element],
+    ) -> Result<usize, Error> {
+        self.lines.insert("spaced", position, elements)
     }
 
     /// `delete`: deletes an element.
@@ -449,14 +520,33 @@ impl Editing {
     ///
     /// Errors: those of `finish`.
     pub fn check(&self) -> Result<(), Error> {
-        self.lines.finish().map(|_| ())
+        self.lines.finish(SHOWN).map(|_| ())
     }
 
     /// `finish`: carries all changes out at once.
     ///
     /// Errors: [`Error::Refused`], [`Error::Failed`], [`Error::TooLong`].
     pub fn finish(self) -> Result<Edit, Error> {
-        self.lines.finish()
+        self.lines.finish(SHOWN)
+    }
+
+    /// The same; the edit has the new tree too.
+    ///
+    /// ```
+    /// use syned::{Kind, Script, Tree};
+    ///
+    /// let mut script = Script::new();
+    /// let file = script.tree(&Tree::new(Kind::Name).token(Kind::Ident, "a").token(Kind::Ident, "b"))?;
+    /// let mut editing = script.edit(&file)?;
+    /// editing.delete(&editing.root().child(0))?;
+    /// let edit = editing.finish_with_tree()?;
+    /// assert_eq!(edit.tree, Some(Tree::new(Kind::Name).token(Kind::Ident, "b")));
+    /// # Ok::<(), syned::Error>(())
+    /// ```
+    ///
+    /// Errors: as for [`finish`](Editing::finish).
+    pub fn finish_with_tree(self) -> Result<Edit, Error> {
+        self.lines.finish(SHOWN_WITH_TREE)
     }
 
     /// The text of the script so far.
@@ -470,7 +560,14 @@ impl Ordered {
     ///
     /// Errors: [`Error::Refused`], [`Error::Failed`], [`Error::TooLong`].
     pub fn finish(self) -> Result<Edit, Error> {
-        self.lines.finish()
+        self.lines.finish(SHOWN)
+    }
+
+    /// The same; the edit has the new tree too.
+    ///
+    /// Errors: as for [`finish`](Ordered::finish).
+    pub fn finish_with_tree(self) -> Result<Edit, Error> {
+        self.lines.finish(SHOWN_WITH_TREE)
     }
 
     /// The text of the script so far.
@@ -478,6 +575,13 @@ impl Ordered {
         &self.lines.text
     }
 }
+
+// A level of indentation.
+const LEVEL: &str = "    ";
+
+// What an answer has besides, and the end of a script.
+const SHOWN: &str = "show edits\nshow ranges\nfinish\n";
+const SHOWN_WITH_TREE: &str = "show edits\nshow ranges\nshow tree\nfinish\n";
 
 // The lines of a script, whole, with the trees that they make.
 #[derive(Debug)]
@@ -500,6 +604,48 @@ impl Lines {
         self.name(root.all().map(Child::kind))?;
         self.push(line)?;
         Ok(self.root(root))
+    }
+
+    fn indent(&mut self, node: &Element) -> Result<Element, Error> {
+        self.shifted("indent", node, |text| format!("{text}{LEVEL}"))
+    }
+
+    fn dedent(&mut self, node: &Element) -> Result<Element, Error> {
+        let line = format!("\n{LEVEL}");
+        self.shifted("dedent", node, |text| text.replace(&line, "\n"))
+    }
+
+    // A tree of a node with other texts for whitespace that has a newline.
+    fn shifted(
+        &mut self,
+        word: &str,
+        node: &Element,
+        shift: impl Fn(&str) -> String,
+    ) -> Result<Element, Error> {
+        let Child::Node(tree) = self.found(node)? else {
+            return Err(Error::NotANode(node.path.clone()));
+        };
+        let tree = tree.with_texts(|kind, text| {
+            let has_line = *kind == Kind::Whitespace && text.contains('\n');
+            has_line.then(|| shift(text))
+        });
+        let mut line = Line::new(word);
+        line.word(&name_of(self.roots.len()));
+        line.node(self, node)?;
+        self.push(line)?;
+        Ok(self.root(Child::Node(tree)))
+    }
+
+    fn insert(
+        &mut self,
+        word: &str,
+        position: Position<'_>,
+        elements: &[Element],
+    ) -> Result<usize, Error> {
+        let mut line = Line::new(word);
+        line.position(self, position)?;
+        line.elements(self, elements)?;
+        self.push(line)
     }
 
     // Has the first line name these kinds, where it has to.
@@ -572,8 +718,9 @@ impl Lines {
         let end = *self.ends.get(before).ok_or(Error::NoLine(number))? - 1;
         let start = before.checked_sub(1).map_or(0, |line| self.ends[line]);
         let line = &self.text[start..end];
-        if line.is_empty() || before == 0 || line.starts_with("tree ") || line.starts_with("edit ")
-        {
+        let makes_tree = |word: &str| matches!(word, "tree" | "edit" | "indent" | "dedent");
+        let is_kept = line.split(' ').next().is_some_and(makes_tree);
+        if line.is_empty() || before == 0 || is_kept {
             return Err(Error::NoLine(number));
         }
         self.text.replace_range(start..end, "");
@@ -583,8 +730,7 @@ impl Lines {
         Ok(())
     }
 
-    fn finish(&self) -> Result<Edit, Error> {
-        let end = "finish\n";
+    fn finish(&self, end: &str) -> Result<Edit, Error> {
         if self.text.len() + end.len() > SCRIPT_LIMIT {
             return Err(Error::TooLong);
         }

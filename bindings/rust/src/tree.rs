@@ -138,6 +138,57 @@ impl Tree {
         Child::Node(self.clone()).text()
     }
 
+    /// The same with other tokens, where the function gives texts for a kind and a text. What stays is shared.
+    pub(crate) fn with_texts(&self, change: impl Fn(&Kind, &str) -> Option<String>) -> Tree {
+        let mut open = vec![Changing::new(self)];
+        loop {
+            let Some(last) = open.last_mut() else {
+                return self.clone();
+            };
+            match last.old.0.children.get(last.at) {
+                Some(Child::Node(node)) => open.push(Changing::new(node)),
+                Some(Child::Token(kind, text)) => {
+                    let new = change(kind, text).map(|text| Child::Token(kind.clone(), text));
+                    last.put(new);
+                }
+                None => {
+                    let new = last.new.take();
+                    open.pop();
+                    match open.last_mut() {
+                        Some(above) => above.put(new.map(Child::Node)),
+                        None => return new.unwrap_or_else(|| self.clone()),
+                    }
+                }
+            }
+        }
+    }
+
+    /// The tree of a tree expression, if it is one.
+    pub(crate) fn read(expression: &str) -> Option<Tree> {
+        let mut open = Vec::new();
+        let mut rest = expression;
+        loop {
+            if let Some(inside) = rest.strip_prefix('(') {
+                let (kind, after) = read_kind(inside)?;
+                open.push(Tree::new(kind));
+                rest = after;
+            } else if let Some(after) = rest.strip_prefix(')') {
+                let done = open.pop()?;
+                rest = after;
+                match open.last_mut() {
+                    Some(above) => above.push_node(done),
+                    None => return rest.is_empty().then_some(done),
+                }
+            } else {
+                let (kind, after) = read_kind(rest)?;
+                let (text, after) = read_text(after.strip_prefix('"')?)?;
+                open.last_mut()?.push_token(kind, text);
+                rest = after;
+            }
+            rest = rest.trim_start_matches(' ');
+        }
+    }
+
     /// Writes its tree expression.
     pub(crate) fn write(&self, out: &mut String) {
         let mut rest = vec![self.0.children.iter()];
@@ -162,6 +213,66 @@ impl Tree {
                 }
             }
         }
+    }
+}
+
+// A node whose children are looked at in order: those before a number, changed, if one of them is.
+struct Changing<'a> {
+    old: &'a Tree,
+    at: usize,
+    new: Option<Tree>,
+}
+
+impl<'a> Changing<'a> {
+    fn new(old: &'a Tree) -> Changing<'a> {
+        Changing {
+            old,
+            at: 0,
+            new: None,
+        }
+    }
+
+    // Goes on behind a child, for which another may stand.
+    fn put(&mut self, other: Option<Child>) {
+        let children = &self.old.0.children;
+        if other.is_some() && self.new.is_none() {
+            let mut new = Tree::new(self.old.0.kind.clone());
+            for child in &children[..self.at] {
+                new.push(child.clone());
+            }
+            self.new = Some(new);
+        }
+        if let Some(new) = &mut self.new {
+            new.push(other.unwrap_or_else(|| children[self.at].clone()));
+        }
+        self.at += 1;
+    }
+}
+
+// The kind at the beginning of a text, and what is behind it.
+fn read_kind(text: &str) -> Option<(Kind, &str)> {
+    let is_in_name = |c: char| c.is_ascii_alphanumeric() || c == '_';
+    let (name, rest) = text.split_at(text.find(|c| !is_in_name(c)).unwrap_or(text.len()));
+    Some((Kind::new(name)?, rest))
+}
+
+/// The text before the first quote that stands for itself, without its escapes, and what is behind the quote.
+pub(crate) fn read_text(written: &str) -> Option<(String, &str)> {
+    let mut out = String::new();
+    let mut chars = written.chars();
+    loop {
+        out.push(match chars.next()? {
+            '"' => return Some((out, chars.as_str())),
+            '\\' => match chars.next()? {
+                'n' => '\n',
+                'r' => '\r',
+                't' => '\t',
+                '"' => '"',
+                '\\' => '\\',
+                _ => return None,
+            },
+            c => c,
+        });
     }
 }
 

@@ -4,7 +4,9 @@
 
 use std::fs;
 use std::path::Path;
-use syned::{edit, Edit, Editing, Element, Error, Kind, Position, Refusal, Script, Tree};
+use syned::{
+    apply, edit, Edit, Editing, Element, Error, Kind, Position, Refusal, Script, TextEdit, Tree,
+};
 
 fn number(text: &str) -> Tree {
     Tree::new(Kind::Literal).token(Kind::IntNumber, text)
@@ -144,6 +146,131 @@ fn insert_of_several_and_of_none() {
         .unwrap();
     editing.insert_all(Position::First(&root), &[]).unwrap();
     assert_edit(editing.finish(), "(xy1, 2)", &[&[1], &[2]]);
+}
+
+#[test]
+fn insert_with_whitespace_puts_spaces() {
+    let (mut editing, root) = list_edit();
+    let x = name(&mut editing, "x");
+    editing
+        .insert_with_whitespace(Position::After(&root.child(2)), &x)
+        .unwrap();
+    editing
+        .insert_all_with_whitespace(Position::First(&root.child(4)), &[x, root.child(1)])
+        .unwrap();
+    editing
+        .insert_all_with_whitespace(Position::Last(&root), &[])
+        .unwrap();
+    let script = editing.text().lines().skip(4).collect::<Vec<_>>();
+    let wanted = [
+        "spaced after t1/2 t2/0",
+        "spaced first t1/4 t2/0 t1/1",
+        "spaced last t1",
+    ];
+    assert_eq!(script, wanted);
+    // A space stands after the first `x` already.
+    assert_edit(
+        editing.finish(),
+        "(1, x x1 2)",
+        &[&[3], &[4], &[6, 0], &[6, 1], &[6, 2]],
+    );
+}
+
+#[test]
+fn indent_and_dedent_make_trees() {
+    let inner = Tree::new(Kind::StmtList)
+        .token(Kind::Whitespace, "\n  \n    ")
+        .token(Kind::Comment, "/*\n    */")
+        .token(Kind::Whitespace, " ");
+    let block = Tree::new(Kind::BlockExpr)
+        .node(inner)
+        .node(number("1"))
+        .token(Kind::Whitespace, "\n    ");
+    let mut script = Script::new();
+    let block = script.tree(&block).unwrap();
+    let further = script.indent(&block.child(0)).unwrap();
+    assert_eq!(further.text().as_deref(), Some("\n  \n        /*\n    */ "));
+    let mut editing = script.edit(&further).unwrap();
+    let back = editing.dedent(&further).unwrap();
+    assert_eq!(back.text(), block.child(0).text());
+    let out = editing.dedent(&block).unwrap();
+    assert_eq!(out.text().as_deref(), Some("\n  \n/*\n    */ 1\n"));
+    let lines = editing.text().lines().skip(2).collect::<Vec<_>>();
+    let wanted = [
+        "indent t1 t0/0",
+        "edit t2 t1",
+        "dedent t3 t1",
+        "dedent t4 t0",
+    ];
+    assert_eq!(lines, wanted);
+    for line in 3..=6 {
+        assert_eq!(editing.take_back(line), Err(Error::NoLine(line)));
+    }
+    editing
+        .replace_with_many(&editing.root().child(0), &[out, back])
+        .unwrap();
+    assert_edit(
+        editing.finish(),
+        "\n  \n/*\n    */ 1\n\n  \n    /*\n    */ /*\n    */ ",
+        &[&[0], &[1]],
+    );
+}
+
+#[test]
+fn finish_tells_edits_ranges_and_the_tree() {
+    let (mut editing, root) = list_edit();
+    let x = name(&mut editing, "é\n");
+    let (two, whole) = (editing.word(), editing.word());
+    editing.note(two, &root.at(&[4, 0])).unwrap();
+    editing.note(whole, &root).unwrap();
+    editing.replace(&root.child(1), &x).unwrap();
+    editing.delete(&root.child(5)).unwrap();
+    let ordered = editing.order(&[1, 0]).unwrap();
+    let edit = ordered.finish_with_tree().unwrap();
+    let edits = [(1..2, "é\n"), (5..6, "")].map(|(range, text)| TextEdit {
+        range,
+        text: text.to_string(),
+    });
+    assert_eq!(edit.edits, edits);
+    assert_eq!(apply(&edit.edits, "(1, 2)"), Some(edit.text.clone()));
+    assert_eq!(edit.ranges[&edit.changed[0]], 1..4);
+    assert_eq!(edit.ranges[&edit.paths_of(two)[0]], 6..7);
+    assert_eq!(edit.ranges[&edit.paths_of(whole)[0]], 0..7);
+    let tree = Tree::new(Kind::ArgList)
+        .token(Kind::LParen, "(")
+        .token(Kind::Ident, "é\n")
+        .token(Kind::Comma, ",")
+        .token(Kind::Whitespace, " ")
+        .node(number("2"));
+    assert_eq!(edit.tree, Some(tree));
+    assert_eq!(list_edit().0.finish().unwrap().tree, None);
+    assert_eq!(list_edit().0.finish_with_tree().unwrap().tree, Some(list()));
+}
+
+#[test]
+fn edits_that_are_none_of_a_text() {
+    let apply = |ranges: &[(usize, usize)], text| {
+        let edit = |&(start, end): &(usize, usize)| TextEdit {
+            range: start..end,
+            text: "x".to_string(),
+        };
+        let edits = ranges.iter().map(edit).collect::<Vec<_>>();
+        apply(&edits, text)
+    };
+    for ranges in [
+        &[(2, 0)][..],
+        &[(0, 4)],
+        &[(4, 4)],
+        &[(0, 2), (0, 2)],
+        &[(2, 3), (0, 2)],
+        &[(1, 2)],
+        &[(0, 1)],
+    ] {
+        assert_eq!(apply(ranges, "éa"), None, "{ranges:?}");
+    }
+    assert_eq!(apply(&[], "").as_deref(), Some(""));
+    let several = apply(&[(1, 1), (1, 1), (1, 2)], "ab");
+    assert_eq!(several.as_deref(), Some("axxx"));
 }
 
 #[test]
@@ -547,6 +674,11 @@ fn a_path_that_leads_nowhere() {
         assert_eq!(editing.replace_all(&root, &nowhere, &[]), error);
         assert_eq!(editing.map(&root, &nowhere, &root), error);
         assert_eq!(editing.remove(&nowhere, Kind::Comma), error);
+        let spaced = editing.insert_with_whitespace(Position::Last(&root), &nowhere);
+        assert_eq!(spaced, error);
+        for shifted in [editing.indent(&nowhere), editing.dedent(&nowhere)] {
+            assert_eq!(shifted, Err(Error::NoElement(path.to_vec())));
+        }
         let word = editing.word();
         assert_eq!(editing.note(word, &nowhere), error);
     }
@@ -566,6 +698,8 @@ fn a_token_for_a_node() {
     let comma = root.child(2);
     assert_eq!(editing.insert(Position::First(&comma), &root), error);
     assert_eq!(editing.insert(Position::Last(&comma), &root), error);
+    assert_eq!(editing.indent(&comma), Err(Error::NotANode(vec![2])));
+    assert_eq!(editing.dedent(&comma), Err(Error::NotANode(vec![2])));
     for [parent, node, copy] in [
         [&comma, &root, &root],
         [&root, &comma, &root],
@@ -595,6 +729,10 @@ fn a_position_beside_a_root() {
         editing.insert(Position::After(&root), &x),
         Err(Error::BesideRoot)
     );
+    assert_eq!(
+        editing.insert_with_whitespace(Position::After(&root), &x),
+        Err(Error::BesideRoot)
+    );
     assert_edit(editing.finish(), "(1, 2)", &[]);
 }
 
@@ -604,6 +742,7 @@ fn an_element_or_a_word_of_another_script() {
     let (mut other, other_root) = list_edit();
     let word = other.word();
     assert_eq!(editing.delete(&other_root), Err(Error::OtherScript));
+    assert_eq!(editing.indent(&other_root), Err(Error::OtherScript));
     assert_eq!(editing.note(word, &root), Err(Error::OtherScript));
     assert_eq!(Script::new().edit(&root).unwrap_err(), Error::OtherScript);
     assert_edit(editing.finish(), "(1, 2)", &[]);
@@ -617,9 +756,12 @@ fn trees_of_any_depth_and_size() {
         |tree, _| Tree::new(Kind::Attr).node(tree),
     );
     assert_eq!(tree, tree.clone());
-    let (editing, root) = edit_of(&tree);
+    let (mut editing, root) = edit_of(&tree);
     assert_eq!(root.text().as_deref(), Some(&*long));
-    assert_eq!(editing.finish().unwrap().text, long);
+    let further = editing.indent(&root).unwrap();
+    assert_eq!(further.text(), root.text());
+    let edit = editing.finish_with_tree().unwrap();
+    assert_eq!((edit.text, edit.tree), (long, Some(tree)));
 }
 
 #[test]

@@ -1,8 +1,10 @@
 //! Scripts of calls by chance, the same ones in each run: no script of the builder is bad, and what the builder leaves
-//! out would have been.
+//! out would have been. The edits of the old text give the new one, and its tree has what the paths and ranges say.
 #![forbid(unsafe_code)]
 
-use syned::{edit_for, Dialect, Editing, Element, Error, Kind, Position, Script, Tree};
+use syned::{
+    apply, edit_for, Dialect, Edit, Editing, Element, Error, Kind, Position, Script, Tree,
+};
 
 struct Chance(u64);
 
@@ -21,9 +23,9 @@ impl Chance {
     }
 
     fn text(&mut self) -> String {
-        const PARTS: [&str; 18] = [
-            "a", " ", "\n", "\r", "\t", "\"", "\\", "\\n", "(", ")", "/", "#", "\0", "é", "\u{85}",
-            "\u{2028}", "𝄞", "",
+        const PARTS: [&str; 20] = [
+            "    ", "\n    ", "a", " ", "\n", "\r", "\t", "\"", "\\", "\\n", "(", ")", "/", "#",
+            "\0", "é", "\u{85}", "\u{2028}", "𝄞", "",
         ];
         (0..self.below(4)).map(|_| self.of(&PARTS)).collect()
     }
@@ -34,7 +36,9 @@ impl Chance {
             if depth > 0 && self.below(2) == 0 {
                 tree.push_node(self.tree(depth - 1));
             } else {
-                tree.push_token(self.of(&Kind::ALL), self.text());
+                let kind = self.of(&Kind::ALL);
+                let kind = self.of(&[kind, Kind::Whitespace]);
+                tree.push_token(kind, self.text());
             }
         }
         tree
@@ -62,7 +66,7 @@ impl Chance {
         );
         let many = self.elements(roots);
         let all: String = many.iter().map(|element| format!(" {element}")).collect();
-        match self.below(9) {
+        match self.below(11) {
             0 => (format!("map {a} {b} {c}"), editing.map(&a, &b, &c)),
             1 => (
                 format!("insert first {a} {b}"),
@@ -89,6 +93,14 @@ impl Chance {
                 format!("range {a} {b}{all}"),
                 editing.replace_all(&a, &b, &many),
             ),
+            8 => (
+                format!("spaced after {a} {b}"),
+                editing.insert_with_whitespace(Position::After(&a), &b),
+            ),
+            9 => (
+                format!("spaced first {a}{all}"),
+                editing.insert_all_with_whitespace(Position::First(&a), &many),
+            ),
             _ => {
                 let word = editing.word();
                 (format!("note {} {a}", word.name()), editing.note(word, &a))
@@ -100,6 +112,47 @@ impl Chance {
 // The text of a script with this line and an end.
 fn with_line(script: &str, line: &str) -> String {
     format!("{script}{line}\nfinish\n")
+}
+
+// The edits make the new text of the old one, and each path has a range, which is that of its element in the new tree.
+fn assert_whole(old: &str, edit: &Edit) {
+    assert_eq!(apply(&edit.edits, old).as_ref(), Some(&edit.text));
+    let noted = edit.notes.iter().flat_map(|note| &note.paths);
+    for path in edit.changed.iter().chain(noted) {
+        assert!(edit.ranges.contains_key(path), "{path:?}");
+    }
+    let Some(tree) = &edit.tree else { return };
+    assert_eq!(tree.text(), edit.text);
+    let root = Script::new().tree(tree).unwrap();
+    for (path, range) in &edit.ranges {
+        let element = root.at(path);
+        assert_eq!(element.range().as_ref(), Some(range));
+        assert_eq!(element.text().as_deref(), edit.text.get(range.clone()));
+    }
+}
+
+// A script whose tree was made by `indent` and `dedent` has the texts that the builder knows.
+#[test]
+fn trees_further_in_and_out_are_those_of_the_library() {
+    let mut chance = Chance(2);
+    let mut other = 0;
+    for _ in 0..300 {
+        let mut script = Script::new();
+        let first = script.tree(&chance.tree(3)).unwrap();
+        let mut tree = first.clone();
+        for _ in 0..3 {
+            tree = match chance.below(2) {
+                0 => script.indent(&tree).unwrap(),
+                _ => script.dedent(&tree).unwrap(),
+            };
+        }
+        let editing = script.edit(&tree).unwrap();
+        let edit = editing.finish_with_tree().unwrap();
+        assert_eq!(Some(&edit.text), tree.text().as_ref());
+        assert_whole(&edit.text, &edit);
+        other += usize::from(tree.text() != first.text());
+    }
+    assert!(other > 10, "{other}");
 }
 
 #[test]
@@ -114,6 +167,12 @@ fn no_script_is_bad_and_what_is_left_out_would_be() {
         for _ in 0..chance.below(3) {
             roots.push(editing.tree(&chance.tree(2)).unwrap());
         }
+        let of = chance.of(&roots);
+        roots.extend(match chance.below(4) {
+            0 => Some(editing.indent(&of).unwrap()),
+            1 => Some(editing.dedent(&of).unwrap()),
+            _ => None,
+        });
         for _ in 0..chance.below(5) {
             let before = editing.text().to_string();
             let (line, result) = chance.call(&mut editing, &roots);
@@ -144,10 +203,17 @@ fn no_script_is_bad_and_what_is_left_out_would_be() {
         let text = editing.text().to_string();
         let checked = editing.check();
         assert_eq!(editing.text(), text);
-        let finished = editing.finish();
+        let old = editing.root().text().unwrap();
+        let finished = match chance.below(2) {
+            0 => editing.finish(),
+            _ => editing.finish_with_tree(),
+        };
         assert_eq!(checked.err(), finished.as_ref().err().cloned());
         match finished {
-            Ok(_) => done += 1,
+            Ok(edit) => {
+                assert_whole(&old, &edit);
+                done += 1;
+            }
             Err(Error::Refused { .. }) => refused += 1,
             Err(error) => panic!("{text}{error}"),
         }

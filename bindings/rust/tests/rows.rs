@@ -1,14 +1,17 @@
 //! Each script of the folder SYNED_ROWS, which bindings/scripts.py fills, has the status, the answer and the sentence
-//! that the program `syned` gave; on 8 threads at a time, each over all scripts.
+//! that the program `syned` gave; on 8 threads at a time, each over all scripts. Those in its folder `wide` are of the
+//! wide dialect.
 #![forbid(unsafe_code)]
 
 use std::path::{Path, PathBuf};
 use std::{env, fs, thread};
-use syned::{edit, explain, run, Edit, Error, Status};
+use syned::{edit_for, explain_for, run_for, Dialect, Edit, Error, Script, Status, Tree};
 
 const THREADS: usize = 8;
 
+#[derive(Clone)]
 struct Row {
+    dialect: Dialect,
     script: Vec<u8>,
     answer: Vec<u8>,
     said: String,
@@ -24,17 +27,17 @@ fn read_text(folder: &Path, number: usize, ending: &str) -> String {
     String::from_utf8(read(folder, number, ending)).expect("a text")
 }
 
-fn rows() -> Vec<Row> {
-    let folder = PathBuf::from(env::var_os("SYNED_ROWS").expect("SYNED_ROWS names no folder"));
-    let files = fs::read_dir(&folder).expect("SYNED_ROWS names no folder");
+fn rows(dialect: Dialect, folder: &Path) -> Vec<Row> {
+    let files = fs::read_dir(folder).expect("SYNED_ROWS names no folder");
     let paths = files.map(|file| file.expect("a file").path());
     let scripts = paths.filter(|path| path.extension().is_some_and(|ending| ending == "script"));
     let rows: Vec<Row> = (0..scripts.count())
         .map(|number| Row {
-            script: read(&folder, number, "script"),
-            answer: read(&folder, number, "answer"),
-            said: read_text(&folder, number, "said"),
-            status: read_text(&folder, number, "status"),
+            dialect,
+            script: read(folder, number, "script"),
+            answer: read(folder, number, "answer"),
+            said: read_text(folder, number, "said"),
+            status: read_text(folder, number, "status"),
         })
         .collect();
     assert!(!rows.is_empty(), "SYNED_ROWS has no scripts");
@@ -42,14 +45,14 @@ fn rows() -> Vec<Row> {
 }
 
 fn check(number: usize, row: &Row) {
-    let (status, answer) = run(&row.script);
+    let (status, answer) = run_for(row.dialect, &row.script);
     assert_eq!(
         status.code().to_string(),
         row.status.trim_end(),
         "{number}.status"
     );
     assert_eq!(answer, row.answer, "{number}.answer");
-    let said = explain(&row.script);
+    let said = explain_for(row.dialect, &row.script);
     assert_eq!(said.is_none(), status == Status::Done, "{number}.said");
     assert_eq!(said.unwrap_or_default(), row.said, "{number}.said");
     check_read(number, row, status);
@@ -59,7 +62,7 @@ fn check(number: usize, row: &Row) {
 fn check_read(number: usize, row: &Row, status: Status) {
     let answer = String::from_utf8_lossy(&row.answer);
     let first = answer.lines().next().unwrap_or_default();
-    match edit(&row.script) {
+    match edit_for(row.dialect, &row.script) {
         Ok(edit) => {
             assert_eq!(status, Status::Done, "{number}");
             assert_eq!(written(&edit), answer, "{number}.answer");
@@ -98,19 +101,51 @@ fn check_read(number: usize, row: &Row, status: Status) {
 
 // An answer that was read, written again.
 fn written(edit: &Edit) -> String {
-    let mut text = edit.text.replace('\\', "\\\\");
-    for (plain, escaped) in [("\n", "\\n"), ("\r", "\\r"), ("\t", "\\t"), ("\"", "\\\"")] {
-        text = text.replace(plain, escaped);
-    }
-    let mut out = format!("text \"{text}\"\nchanged{}\n", paths(&edit.changed));
+    let mut out = format!(
+        "text {}\nchanged{}\n",
+        quoted(&edit.text),
+        paths(edit, &edit.changed)
+    );
     for note in &edit.notes {
-        out += &format!("note {}{}\n", note.word, paths(&note.paths));
+        out += &format!("note {}{}\n", note.word, paths(edit, &note.paths));
+    }
+    for text_edit in &edit.edits {
+        let range = &text_edit.range;
+        out += &format!(
+            "edit {} {} {}\n",
+            range.start,
+            range.end,
+            quoted(&text_edit.text)
+        );
+    }
+    if let Some(tree) = &edit.tree {
+        out += &format!("tree {}\n", expression(tree));
     }
     out
 }
 
-fn paths(paths: &[Vec<usize>]) -> String {
-    paths.iter().map(|path| format!(" {}", way(path))).collect()
+fn quoted(text: &str) -> String {
+    let mut text = text.replace('\\', "\\\\");
+    for (plain, escaped) in [("\n", "\\n"), ("\r", "\\r"), ("\t", "\\t"), ("\"", "\\\"")] {
+        text = text.replace(plain, escaped);
+    }
+    format!("\"{text}\"")
+}
+
+// As a script has it: its second line makes the tree.
+fn expression(tree: &Tree) -> String {
+    let mut script = Script::new();
+    script.tree(tree).expect("a tree");
+    let line = script.text().lines().nth(1).expect("a line");
+    line.strip_prefix("tree t0 ").expect("a tree").to_string()
+}
+
+fn paths(edit: &Edit, paths: &[Vec<usize>]) -> String {
+    let place = |path: &Vec<usize>| match edit.ranges.get(path) {
+        Some(range) => format!(" {}@{}..{}", way(path), range.start, range.end),
+        None => format!(" {}", way(path)),
+    };
+    paths.iter().map(place).collect()
 }
 
 fn way(path: &[usize]) -> String {
@@ -124,7 +159,12 @@ fn way(path: &[usize]) -> String {
 
 #[test]
 fn all_answers_are_those_of_the_program() {
-    let rows = rows();
+    let folder = PathBuf::from(env::var_os("SYNED_ROWS").expect("SYNED_ROWS names no folder"));
+    let rows = [
+        rows(Dialect::Syned, &folder),
+        rows(Dialect::Wide, &folder.join("wide")),
+    ]
+    .concat();
     thread::scope(|scope| {
         for _ in 0..THREADS {
             scope.spawn(|| {
