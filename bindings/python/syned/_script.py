@@ -472,6 +472,27 @@ class Script:
         self._name([separator])
         return self._record(line)
 
+    def wrap(self, element: Element, kind: str, before: Iterable[Element] = (), after: Iterable[Element] = ()) -> int:
+        """Replaces a node by a new one of this kind, which has it between other elements. Changes inside the node move into the
+        new one, with no `map`.
+
+        >>> from syned import Kind, Script, node, token
+        >>> script = Script()
+        >>> one, two = (node(Kind.LITERAL, token(Kind.INT_NUMBER, it)) for it in "12")
+        >>> root = script.edit(script.tree(node(Kind.ARG_LIST, one, token(Kind.COMMA, ","), two)))
+        >>> sides = script.tree(node(Kind.NAME, token(Kind.L_PAREN, "("), token(Kind.R_PAREN, ")")))
+        >>> script.wrap(root[0], Kind.TUPLE_EXPR, [sides[0]], [sides[1]])
+        5
+        >>> script.replace(root[0][0], root[2][0])
+        6
+        >>> script.finish().text
+        '(2),2'
+        """
+        kind = kind_of(kind)
+        line = f"{self._line('wrap', element)} {self._line(written(kind), *before)} {self._line('|', *after)}"
+        self._name([kind])
+        return self._record(line)
+
     def note(self, word: str, element: Element) -> int:
         """Asks where an element is in the new tree: `Edit.notes` has it by this word, which may have several elements.
 

@@ -461,6 +461,41 @@ impl Editing {
         self.lines.push(line)
     }
 
+    /// `wrap`: replaces a node by a new one of this kind, which has it between other elements. Changes inside the node move into
+    /// the new one, with no [`map`](Editing::map).
+    ///
+    /// ```
+    /// use syned::{Error, Kind, Script, Tree};
+    ///
+    /// let mut script = Script::new();
+    /// let list = script.tree(&Tree::new(Kind::ArgList).node(Tree::new(Kind::Literal).token(Kind::IntNumber, "1")))?;
+    /// let mut editing = script.edit(&list)?;
+    /// let sides = editing.tree(&Tree::new(Kind::Name).token(Kind::LParen, "(").token(Kind::RParen, ")"))?;
+    /// let one = editing.root().child(0);
+    /// editing.wrap(&one, Kind::TupleExpr, &[sides.child(0)], &[sides.child(1)])?;
+    /// editing.replace(&one.child(0), &sides.child(0))?;
+    /// assert_eq!(editing.finish()?.text, "(()");
+    /// # Ok::<(), Error>(())
+    /// ```
+    ///
+    /// Errors: also [`Error::NotANode`].
+    pub fn wrap(
+        &mut self,
+        node: &Element,
+        kind: Kind,
+        before: &[Element],
+        after: &[Element],
+    ) -> Result<usize, Error> {
+        let mut line = Line::new("wrap");
+        line.node(&self.lines, node)?;
+        line.word(kind.name());
+        line.elements(&self.lines, before)?;
+        line.word("|");
+        line.elements(&self.lines, after)?;
+        self.lines.name(std::iter::once(&kind))?;
+        self.lines.push(line)
+    }
+
     /// A new word for notes. The script has no line for it: its notes have it.
     pub fn word(&mut self) -> Word {
         let number = self.words;

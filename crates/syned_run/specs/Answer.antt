@@ -27,7 +27,8 @@
 use Rattle.std.specs.Prelude.{◌≡◌, ◌⊎◌, ℕ, ◌+◌, ◌<◌, Bool, true, false, cond, List, [], ◌++◌, map, length, take, Option, is_some, unwrap_or, codes, decimal, IsUtf8}
 use Rattle.std.specs.List.{flat_map}
 use Rattle.std.specs.Io.KnownBytes.{Appends, Consumes, Keeps}
-use Rattle.cst_core.specs.Tree.{SyntaxTree, text, start}
+use Rattle.cst_core.specs.Tree.{SyntaxTree, text}
+use Rattle.cst_core.specs.Order.{start}
 use Rattle.cst_core.specs.Element.{subtree}
 use Rattle.cst_core.specs.AtOffset.{end_of}
 use Rattle.cst_core.specs.SyntaxElement.{element_of}

@@ -4,6 +4,7 @@ ghost use Rattle.cst_core.specs.Green.{branch_tree};
 ghost use Rattle.cst_core.specs.Tree.{text};
 ghost use Rattle.cst_core.specs.Element.{subtree};
 ghost use Rattle.syntax_editor.specs.PlanText.{path_text};
+ghost use Rattle.syntax_editor.specs.TextPiece.{as_piece, pieces};
 ghost use Rattle.syned_script.specs.ShownValue.{showing_of};
 ghost use Rattle.syned_run.specs.Answer.{edit_line, edit_text, note_text, place_of, places_of, places_text, shown_text, tree_line};
 ghost use Rattle.syned_run.specs.inner.Printing.{note_shown};
@@ -11,7 +12,7 @@ ghost use Rattle.syned_run.specs.inner.Printing.{note_shown};
 use cst_core::{GreenNode, SyntaxElement};
 use std::alloc::{AllocError, Global};
 use syned_script::{Shown, Word};
-use syntax_editor::{SyntaxEdit, TextEdits};
+use syntax_editor::{SyntaxEdit, TextEdit};
 use tree_text::{KindNames, WriteError, push_escaped, write_tree_with};
 
 /// The new text, the places of the elements that changed, and for each word those of its elements. Where ranges are shown, a place has one.
@@ -121,7 +122,7 @@ pub(crate) fn push_shown(
         (string_bytes out.new ≡ string_bytes out.old ++ shown_text (showing_of shown.now) (branch_tree new.now)) }
 {
     if let Some(edits) = &shown.edits {
-        push_edits(out, edits)?;
+        push_edits(out, edits.as_slice())?;
     }
     if shown.details.tree {
         push_tree(alloc, out, &shown.names, new)?;
@@ -129,16 +130,22 @@ pub(crate) fn push_shown(
     Ok(())
 }
 
-fn push_edits(out: &mut String, edits: &TextEdits) -> Result<(), AllocError>
-    ensures { OnOk result (string_bytes out.new ≡ string_bytes out.old ++ flat_map edit_line edits.now) }
+fn push_edits(out: &mut String, edits: &[TextEdit]) -> Result<(), AllocError>
+    ensures { OnOk result (string_bytes out.new ≡ string_bytes out.old ++ flat_map edit_line (pieces edits.now)) }
 {
-    for edit in edits.as_slice() {
-        let (start, end) = (edit.start, edit.end);
-        write!(out, "edit {start} {end} \"")?;
-        push_escaped(out, &edit.text)?;
-        out.push_str("\"\n")?;
+    for edit in edits {
+        push_edit(out, edit)?;
     }
     Ok(())
+}
+
+fn push_edit(out: &mut String, edit: &TextEdit) -> Result<(), AllocError>
+    ensures { OnOk result (string_bytes out.new ≡ string_bytes out.old ++ edit_line (as_piece edit.now)) }
+{
+    let (start, end) = (edit.start, edit.end);
+    write!(out, "edit {start} {end} \"")?;
+    push_escaped(out, &edit.text)?;
+    out.push_str("\"\n")
 }
 
 fn push_tree(
@@ -155,7 +162,5 @@ fn push_tree(
         Err(WriteError::NoName(_)) => return Ok(()),
         Err(WriteError::Memory) => return Err(AllocError),
     };
-    out.push_str("tree ")?;
-    out.push_str(&expression)?;
-    out.push('\n')
+    write!(out, "tree {expression}\n")
 }

@@ -3,9 +3,10 @@ use Rattle.std.specs.Global.{Global}
 use Rattle.std.specs.Option.{MatchOption}
 use Rattle.std.specs.declared.alloc.AllocError.{AllocError}
 use Rattle.script_lines.specs.declared.dialect.Dialect.{Dialect}
-use Rattle.syned_script.specs.Script.{Edited}
+use Rattle.syned_script.specs.ShownValue.{outcome_of}
 use Rattle.syned_run.specs.Answer.{printed}
 use Rattle.syned_run.specs.inner.Responding.{OutcomeIn, IsReasonOf}
+use Rattle.syned_run.proofs.Printed.{done_alone}
 use Rattle.syned_run.proofs.Reasons.{stops-without}
 use Rattle.syned_run.proofs.explained.explain_text.Goals as goal
 use Rattle.syned_run.proofs.explained.explain_text.Goals.{in-Ok, in-Err+in_ok-of_stop-in-Err}
@@ -18,8 +19,9 @@ returns c =
     let script = c.args.script.now in
     elim c.match-carry_out_for.branch [
       | in-Ok w ↦
-          let outcome = Edited w.in-Ok.field-0.edit w.in-Ok.field-0.words in
-          subst (IsTold c.args.dialect script) (sym w.result-is) (printed outcome, (outcome, w.in-Ok.ensures.ok, refl, refl))
+          let done = w.in-Ok.field-0 in
+          let outcome = outcome_of done.edit done.words done.shown in
+          subst (IsTold c.args.dialect script) (sym w.result-is) (printed outcome, (outcome, w.in-Ok.ensures.ok, sym (done_alone done.edit done.words done.shown), refl))
       | in-Err+in_ok-of_stop-in-Err w ↦
           let said = w.in_ok-of_stop-in-Err.ensures in
           let stopped = w.in-Err.stopped in
