@@ -230,8 +230,9 @@ fn carry_changes_out(
         details,
     } = editing;
     let plan = editor.plan(alloc)?;
-    let edits = edits_to_show(alloc, details, &plan)?;
+    // A new text that is too long is refused before any of it is made.
     let edit = run(alloc, ids, &plan, order)?;
+    let edits = edits_to_show(alloc, details, &plan)?;
     Ok((edit, edits))
 }
 

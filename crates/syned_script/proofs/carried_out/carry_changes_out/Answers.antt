@@ -6,6 +6,7 @@ use Rattle.syntax_editor.specs.Schedule.{IsAllowed}
 use Rattle.syned_script.specs.Script.{EndRefuses}
 use Rattle.syned_script.specs.inner.Run.{RunStops}
 use Rattle.syned_script.specs.inner.Stops.{StopsFor}
+use Rattle.syned_script.specs.declared.stop.Stop.TheVariants.{Memory}
 use Rattle.syned_script.proofs.Stopping.{by-err}
 use Rattle.syned_script.proofs.Ending.{listed-so, plan-stops}
 use Rattle.syned_script.proofs.carried_out.carry_changes_out.Goals as goal
@@ -19,6 +20,11 @@ returns-in_err-edit-clause-stops c =
     let stop = c.in_err-edit.field-0.0 in
     by-err (λ r. IfErr r (StopsFor ⊥ (EndRefuses editor order c.args.ids.now))) c.from_residual-in_err-edit.result stop c.from_residual-in_err-edit.ensures.1
     (plan-stops editor order c.args.ids.now stop (subst IsPlan same c.in_ok-plan.ensures.planned) (subst (λ p. StopsFor ⊥ (RunStops p order c.args.ids.now) stop) same c.in_err-edit.ensures.stops))
+
+pub returns-in_err-edits-clause-stops : goal.returns-in_err-edits-clause-stops
+returns-in_err-edits-clause-stops c =
+    let listed : Option (Vec ℕ Global) → Option (List ℕ) = option_map (λ v. v.items) in
+    by-err (λ r. IfErr r (StopsFor ⊥ (EndRefuses c.args.editing.editor (listed c.args.editing.order) c.args.ids.now))) c.from_residual-in_err-edits.result Memory c.from_residual-in_err-edits.ensures.1 tt
 
 pub returns-clause-done : goal.returns-clause-done
 returns-clause-done c =
