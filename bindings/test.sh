@@ -26,12 +26,29 @@ test_c() {
     cc -O1 -Wall -Wextra -Werror -Ibindings/c examples/first.c bindings/out/libsyned.a -o "$rows/first"
     # The example edits as plain text would: each `1` of the list becomes `one`.
     is_first "$rows/first"
+    first_on_files
     # The same with the shared library, which has a version of its own in its name, as pkg-config says to link it.
     if command -v pkg-config >/dev/null; then
         # shellcheck disable=SC2046
         cc examples/first.c $(PKG_CONFIG_PATH=bindings/c pkg-config --cflags --libs syned) -o "$rows/shared"
         LD_LIBRARY_PATH=bindings/out is_first "$rows/shared"
     fi
+}
+
+# The example on real files: it prints what replacing each number 1 in the plain text gives.
+first_on_files() {
+    python3 - "$rows/first" <<'END'
+import os, re, subprocess, sys
+from pathlib import Path
+
+files = (it for it in sorted(Path(os.__file__).parent.rglob("*.py")) if 0 < it.stat().st_size < 2500)
+texts = [text for text in (it.read_bytes() for it in files) if text == text.replace(b"\0", b"").decode(errors="ignore").encode()][:400]
+printed = [subprocess.run([sys.argv[1], text], stdout=subprocess.PIPE, check=False).stdout for text in texts]
+wrong = [text for text, said in zip(texts, printed) if said != re.sub(rb"(?<!\d)1(?!\d)", b"one", text) + b"\n"]
+changed = sum(said != text + b"\n" for said, text in zip(printed, texts))
+print(f"c: {len(texts) - len(wrong)} of {len(texts)} files are edited as plain text is, {changed} of them changed")
+sys.exit(bool(wrong) or changed < 100)
+END
 }
 
 is_first() {
