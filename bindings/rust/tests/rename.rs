@@ -155,6 +155,7 @@ fn what_is_no_identifier_is_refused() {
 
 #[test]
 fn a_long_file_has_no_limit() {
-    let renamed = renamed(&"a ".repeat(100_000), "a", "b").unwrap();
-    assert_eq!(renamed, "b ".repeat(100_000));
+    let line = |name: &str| format!("{name} // {}\n", "x".repeat(1000));
+    let renamed = renamed(&line("a").repeat(2000), "a", "b").unwrap();
+    assert_eq!(renamed, line("b").repeat(2000));
 }
