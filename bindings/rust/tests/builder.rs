@@ -5,8 +5,7 @@
 use std::fs;
 use std::path::Path;
 use syned::{
-    apply, edit, edit_for, Dialect, Edit, Editing, Element, Error, Kind, Position, Refusal, Script,
-    TextEdit, Tree,
+    apply, edit, Edit, Editing, Element, Error, Kind, Position, Refusal, Script, TextEdit, Tree,
 };
 
 fn number(text: &str) -> Tree {
@@ -582,15 +581,13 @@ fn token_too_early() {
 
 #[test]
 fn too_long() {
-    // 8,600 times half a million bytes are some 5 million more than the largest text has. No text edits are asked for,
-    // which would have them all.
+    // 8,600 times half a million bytes are some 5 million more than the largest text has.
     let (mut editing, root) = list_edit();
     let long = name(&mut editing, &"x".repeat(500_000));
     editing
         .insert_all(Position::First(&root), &vec![long; 8_600])
         .unwrap();
-    let script = format!("{}finish\n", editing.text());
-    let error = edit_for(Dialect::Wide, script.as_bytes()).unwrap_err();
+    let error = editing.finish().unwrap_err();
     assert!(
         matches!(
             error,
