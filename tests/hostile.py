@@ -554,30 +554,22 @@ def questions(nesting, depth):
     first, last = ("0 L_CURLY" if before else f"{token} INT_NUMBER"), (f"{before + 1} R_CURLY" if after else f"{token} INT_NUMBER")
     after_leaf = f"{path((slot, depth - 1), (slot + 1, 1))} R_CURLY" if after else "none"
     before_leaf = f"{path((slot, depth - 1), (0, 1))} L_CURLY" if before else "none"
-    start = before * depth
+    back = f"{leaf} LITERAL" + (f", {before_leaf}" if before else "")
+    on = f"{leaf} LITERAL" + (f", {after_leaf}" if after else "")
+    start, root = before * depth, f"BLOCK_EXPR of {before + 1 + after}, {len(text)} bytes" + (f' "{text}"' if len(text) <= 200 else "")
+    below = ["0 L_CURLY"] * before + [f"{slot} BLOCK_EXPR"] + [f"{slot + 1} R_CURLY"] * after
     return {
-        f"kind T/{leaf}": "LITERAL",
-        f"slots T/{leaf}": leaf,
-        f"index T/{leaf}": slot,
-        f"text_start T/{leaf}": start,
-        f"text_end T/{leaf}": start + 1,
-        "text_len T": len(text),
-        "element_text T": f'"{text}"',
-        "display T": f'"{text}"',
-        f"parent T/{leaf}": f"{lowest} BLOCK_EXPR",
-        f"next_sibling_or_token T/{leaf}": after_leaf,
-        f"prev_sibling_or_token T/{leaf}": before_leaf,
-        f"tree_top T/{leaf}": ". BLOCK_EXPR",
+        f"facts T/{leaf}": f"{leaf} of 7 at {leaf}, LITERAL, slot {slot}, {start}..{start + 1}, 1 bytes, Node(LITERAL@{start}..{start + 1})",
+        "facts T": f". of 7 at ., BLOCK_EXPR, slot 0, 0..{len(text)}, {len(text)} bytes, Node(BLOCK_EXPR@0..{len(text)})",
+        "texts T": f'"{text}" | "{text}" | {root} | {root}',
+        f"around T/{leaf}": f"{lowest} BLOCK_EXPR | . BLOCK_EXPR | {before_leaf} | {after_leaf} | {back} | {on}",
         f"element_at T {token}": f"{token} INT_NUMBER",
         f"element_of_tree T/{leaf} {token}": f"{token} INT_NUMBER",
-        "first_child T": f"{slot} BLOCK_EXPR",
-        f"next_sibling T/{leaf}": "none",
-        "first_token T": first,
-        "last_token T": last,
-        f"next_token T/{token}": after_leaf,
-        f"prev_token T/{token}": before_leaf,
+        "nodes T": f"{slot} BLOCK_EXPR | {slot} BLOCK_EXPR | {slot} BLOCK_EXPR | none | none",
+        f"nodes T/{leaf}": "none | none | none | none | none",
+        "children T": f"{', '.join(below)} | {below[0]} | {below[-1]} | {first} | {last}",
+        f"tokens T/{token}": f"{before_leaf} | {after_leaf}",
         f"covering_element T {start} {start + 1}": f"{token} INT_NUMBER",
-        f"siblings_on T/{leaf}": f"{leaf} LITERAL" + (f", {after_leaf}" if after else ""),
         "same_shape T T": "yes",
         "same_shape T U": "no",
         f"equal T/{leaf} T/{leaf}": "yes",
@@ -590,14 +582,18 @@ def squares(nesting, depth):
     """Questions whose answers name each level."""
     before, after = NESTINGS[nesting]
     levels = [path((before, level)) for level in range(depth + 1)]
-    blocks = [f"{at} BLOCK_EXPR" for at in levels[:-1]]
+    blocks, leaf = [f"{at} BLOCK_EXPR" for at in levels[:-1]], f"{levels[-1]} LITERAL"
+    opened = [line for level in range(depth) for line in [blocks[level], *[f"{path((before, level), (0, 1))} L_CURLY"] * before]]
+    closed = [f"{path((before, level), (before + 1, 1))} R_CURLY" for level in reversed(range(depth))] if after else []
+    every = [*opened, leaf, f"{path((before, depth), (0, 1))} INT_NUMBER", *closed]
+    of_leaf = f'"LITERAL@{before * depth}..{before * depth + 1}\\n  INT_NUMBER@{before * depth}..{before * depth + 1} \\"3\\"\\n"'
     return {
-        f"ancestors T/{levels[-1]}": ", ".join([f"{levels[-1]} LITERAL", *reversed(blocks)]),
-        "descendants T": ", ".join([*blocks, f"{levels[-1]} LITERAL"]),
+        f"lineage T/{levels[-1]}": f"{', '.join([leaf, *reversed(blocks)])} | {of_leaf}",
+        "lineage T": f". BLOCK_EXPR | {dumped(nesting, depth)}",
+        "descendants T": f"{', '.join([*blocks, leaf])} | {', '.join(every)}",
         "descendants_of_kind T BLOCK_EXPR": ", ".join(blocks),
         "write_tree T": written(nesting, depth),
         "dump T": dumped(nesting, depth),
-        "debug_lines T": dumped(nesting, depth),
     }
 
 

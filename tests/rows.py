@@ -174,7 +174,6 @@ EXCEPT = {
     "OnePassEngine::starting_at": "asks for nothing",
     "SpliceEngine::new": "asks for nothing",
     "EditChain::new": "keeps the allocator, and asks for nothing",
-    "Element::syntax_element": "takes the value over, and asks for nothing; of a reference it is `try_clone`",
     "SyntaxEdit::registrations": "is what `NextEdit::next_editor` registers",
     "KindNames::new": "keeps the allocator, and asks for nothing",
     "Language::new": "keeps the allocator, and asks for nothing",

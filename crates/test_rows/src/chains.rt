@@ -5,42 +5,52 @@ use crate::session::Session;
 use cst_core::{SyntaxElement, SyntaxNode};
 use edit_chain::EditChain;
 use std::alloc::AllocError;
-use syntax_editor::NextEdit;
+use syntax_editor::{ElementCursor, NextEdit};
 use test_trees::{Done, Show, Step, keep, made, say, tried};
 
 /// Takes the step of this name, or passes on what is of trees and texts alone.
 pub fn answer(s: &mut Session, step: &mut Step) -> Done {
     match step.name {
-        "next_editor" => {
-            let edit = s.edits.last()?;
-            let editor = asked(edit.next_editor(step.alloc), step)?;
-            step.note(s.editors.push(editor));
-            let root = made(edit.new_root().try_clone(step.alloc), step)?;
-            keep_root(s, root, step)
-        }
-        "chain" => {
-            let chain = EditChain::new(step.alloc, s.trees.node(step)?);
-            Some(step.note(s.chains.push(chain)))
-        }
+        "next_editor" => next_editor(s, step),
+        "chain" => chain(s, step),
         "step" => next(s, step),
         "join" => join(s, step),
         "last_changed" => Some(step.paths(s.chains.last()?.changed_elements())),
-        "find" => {
-            let element = s.trees.element(step)?;
-            found(s.chains.last()?.find(step.alloc, &element), step)
-        }
-        "copies" => {
-            let element = s.trees.element(step)?;
-            let plan = s.plans.last()?;
-            found(s.edits.last()?.copies(step.alloc, plan, &element), step)
-        }
-        "chain_edits" => {
-            let called = s.chains.last()?.text_edits(step.alloc);
-            keep(&mut s.trees, called, step)
-        }
+        "find" => find(s, step),
+        "copies" => copies(s, step),
+        "chain_edits" => chain_edits(s, step),
         "cursors" => cursors(s, step),
         _ => test_trees::answer(&mut s.trees, step),
     }
+}
+
+fn next_editor(s: &mut Session, step: &mut Step) -> Done {
+    let edit = s.edits.last()?;
+    let editor = asked(edit.next_editor(step.alloc), step)?;
+    step.note(s.editors.push(editor));
+    let root = made(edit.new_root().try_clone(step.alloc), step)?;
+    keep_root(s, root, step)
+}
+
+fn chain(s: &mut Session, step: &mut Step) -> Done {
+    let chain = EditChain::new(step.alloc, s.trees.node(step)?);
+    Some(step.note(s.chains.push(chain)))
+}
+
+fn find(s: &Session, step: &mut Step) -> Done {
+    let element = s.trees.element(step)?;
+    found(s.chains.last()?.find(step.alloc, &element), step)
+}
+
+fn copies(s: &Session, step: &mut Step) -> Done {
+    let element = s.trees.element(step)?;
+    let plan = s.plans.last()?;
+    found(s.edits.last()?.copies(step.alloc, plan, &element), step)
+}
+
+fn chain_edits(s: &mut Session, step: &mut Step) -> Done {
+    let called = s.chains.last()?.text_edits(step.alloc);
+    keep(&mut s.trees, called, step)
 }
 
 fn found(called: Result<Vec<SyntaxElement>, AllocError>, step: &mut Step) -> Done {
@@ -78,16 +88,19 @@ fn join(s: &mut Session, step: &mut Step) -> Done {
 }
 
 // Where the elements of an annotation in the last edit stand in the new text and in the text edits of the last plan.
-fn cursors(s: &mut Session, step: &mut Step) -> Done {
-    let edits = asked(s.plans.last()?.text_edits(step.alloc), step)?;
+fn cursors(s: &Session, step: &mut Step) -> Done {
     let annotation = annotation(step)?;
+    let edits = asked(s.plans.last()?.text_edits(step.alloc), step)?;
     let called = s.edits.last()?.find_cursors(step.alloc, annotation, &edits);
-    let found = asked(called, step)?;
+    Some(tell_cursors(&asked(called, step)?, step))
+}
+
+fn tell_cursors(found: &[ElementCursor], step: &mut Step) {
     let mut before = "ok ";
-    for cursor in found.iter() {
+    for cursor in found {
         say!(step, "{before}{}-{} ", cursor.start, cursor.end);
         cursor.in_edit.show(step);
         before = ", ";
     }
-    Some(step.put(if found.is_empty() { "ok none" } else { "" }))
+    step.put(if found.is_empty() { "ok none" } else { "" });
 }

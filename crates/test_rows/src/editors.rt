@@ -5,9 +5,9 @@ use crate::making::factory;
 use crate::plans;
 use crate::session::Session;
 use cst_core::ast::{BlockExpr, Fn, LetStmt};
-use cst_core::{AstNode, SyntaxNode};
+use cst_core::{AstNode, SyntaxElement, SyntaxNode};
 use list_removal::remove_separated;
-use syntax_editor::{AttrsOwnerEdit, Error, SyntaxEdit, SyntaxEditor};
+use syntax_editor::{AttrsOwnerEdit, Change, Error, SyntaxEdit, SyntaxEditor};
 use test_trees::{Done, NoAnswer, Step, change_text, deleted_paths, inserted, position, say};
 
 // What is told of an editor.
@@ -24,32 +24,38 @@ const RECORDED: &str =
 /// Takes the step of this name, or passes on what is none of these.
 pub fn answer(s: &mut Session, step: &mut Step) -> Done {
     match step.name {
-        "new" => {
-            let node = s.trees.node(step)?;
-            let called = SyntaxEditor::new(step.alloc, &mut s.trees.ids, node);
-            let (editor, root) = asked(called, step)?;
-            step.note(s.editors.push(editor));
-            Some(step.root(&root))
-        }
-        "with_ast_node" => {
-            let block = s.trees.typed::<BlockExpr>(step)?;
-            let called = SyntaxEditor::with_ast_node(step.alloc, &mut s.trees.ids, &block);
-            let (editor, root) = asked(called, step)?;
-            step.note(s.editors.push(editor));
-            Some(step.root(root.syntax()))
-        }
+        "new" => new(s, step),
+        "with_ast_node" => with_ast_node(s, step),
         "factory" => Some(*s.editors.last_mut()?.make_mut() = factory(step)?),
         "clashes_with" => clashes_with(s, step),
         "merge" => merge(s, step),
-        "finish" => {
-            let called = s.editors.pop()?.finish(step.alloc, &mut s.trees.ids);
-            keep_edit(s, called, step)
-        }
+        "finish" => finish(s, step),
         name if is_one_of(name, TOLD_OF_EDIT) => of_edit(s, step),
         name if is_one_of(name, TOLD) => of_editor(s, step),
         name if is_one_of(name, RECORDED) => record(s, step),
         _ => plans::answer(s, step),
     }
+}
+
+fn new(s: &mut Session, step: &mut Step) -> Done {
+    let node = s.trees.node(step)?;
+    let called = SyntaxEditor::new(step.alloc, &mut s.trees.ids, node);
+    let (editor, root) = asked(called, step)?;
+    step.note(s.editors.push(editor));
+    Some(step.root(&root))
+}
+
+fn with_ast_node(s: &mut Session, step: &mut Step) -> Done {
+    let block = s.trees.typed::<BlockExpr>(step)?;
+    let called = SyntaxEditor::with_ast_node(step.alloc, &mut s.trees.ids, &block);
+    let (editor, root) = asked(called, step)?;
+    step.note(s.editors.push(editor));
+    Some(step.root(root.syntax()))
+}
+
+fn finish(s: &mut Session, step: &mut Step) -> Done {
+    let called = s.editors.pop()?.finish(step.alloc, &mut s.trees.ids);
+    keep_edit(s, called, step)
 }
 
 fn is_one_of(name: &str, names: &str) -> bool {
@@ -98,121 +104,170 @@ pub fn keep_edit<E: Into<Error>>(
 
 // The text of the old root of the last edit, that of the new one, the paths of changed elements, or of those with an
 // annotation, or what an element of the old tree became.
-fn of_edit(s: &mut Session, step: &mut Step) -> Done {
+fn of_edit(s: &Session, step: &mut Step) -> Done {
     let edit = s.edits.last()?;
-    match step.name {
+    Some(match step.name {
         "old_text" => step.made_text(edit.old_root().text(step.alloc)),
         "new_text" => step.made_text(edit.new_root().text(step.alloc)),
         "changed" => step.paths(edit.changed_elements()),
         "annotated" => {
             let annotation = annotation(step)?;
-            step.paths(edit.find_annotation(annotation));
+            step.paths(edit.find_annotation(annotation))
         }
-        _ => {
-            let old = s.trees.node(step)?;
-            match asked(edit.find_element(step.alloc, &old), step)? {
-                Some(node) => step.root_at(&node),
-                None => step.put("none"),
-            }
-        }
-    }
-    Some(())
+        _ => return find_element(edit, &s.trees.node(step)?, step),
+    })
+}
+
+fn find_element(edit: &SyntaxEdit, old: &SyntaxNode, step: &mut Step) -> Done {
+    let found = asked(edit.find_element(step.alloc, old), step)?;
+    Some(match &found {
+        Some(node) => step.root_at(node),
+        None => step.put("none"),
+    })
 }
 
 // What is told of the last editor and of its changes, also of one by its number.
-fn of_editor(s: &mut Session, step: &mut Step) -> Done {
+fn of_editor(s: &Session, step: &mut Step) -> Done {
     let editor = s.editors.last()?;
     let changes = editor.changes();
-    match step.name {
+    Some(match step.name {
         "check" => return asked(editor.check(step.alloc), step),
         "changes" => step.print(&changes.len()),
         "deletions" => deleted_paths(changes, step),
         "inserted" => inserted(changes, step),
-        "deleted" => {
-            let element = s.trees.element(step)?;
-            let is_deleted = asked(editor.deleted(step.alloc, &element), step)?;
-            step.truth(is_deleted);
-        }
-        "fits" => {
-            let Ok(root) = s.trees.node(step)?.tree_top(step.alloc) else {
-                return step.end_by(NoAnswer::Memory);
-            };
-            step.truth(changes.first()?.fits(&root));
-        }
+        "deleted" => return deleted(editor, &s.trees.element(step)?, step),
+        "fits" => return fits(changes.first()?, &s.trees.node(step)?, step),
         _ => return change_text(changes.get(step.number::<usize>())?, step),
-    }
-    Some(())
+    })
+}
+
+fn deleted(editor: &SyntaxEditor, element: &SyntaxElement, step: &mut Step) -> Done {
+    let is_deleted = asked(editor.deleted(step.alloc, element), step)?;
+    Some(step.truth(is_deleted))
+}
+
+fn fits(change: &Change, node: &SyntaxNode, step: &mut Step) -> Done {
+    let Ok(root) = node.tree_top(step.alloc) else {
+        return step.end_by(NoAnswer::Memory);
+    };
+    Some(step.truth(change.fits(&root)))
 }
 
 // By a call of the last editor.
 fn record(s: &mut Session, step: &mut Step) -> Done {
-    let (alloc, trees) = (step.alloc, &s.trees);
-    let editor = s.editors.last_mut()?;
     match step.name {
-        "delete" => asked(editor.delete(alloc, trees.element(step)?), step),
-        "add_annotation_all" => {
-            let (elements, first) = (trees.others(step)?, annotation_of("1")?);
-            asked(editor.add_annotation_all(alloc, elements, first), step)
-        }
-        "remove_attrs_and_docs" => remove_attrs_and_docs(editor, trees.node(step)?, step),
-        name if name.starts_with("insert") => insert(s, step),
-        _ => record_at(s, step),
+        "delete" => delete(s, step),
+        "add_annotation_all" => add_annotation_all(s, step),
+        "remove_attrs_and_docs" => remove_attrs_and_docs(s, step),
+        "insert" | "insert_with_whitespace" => insert(s, step),
+        "insert_all" | "insert_all_with_whitespace" => insert_all(s, step),
+        "delete_all" | "replace" => record_two(s, step),
+        "replace_with_many" => replace_with_many(s, step),
+        "replace_all" => replace_all(s, step),
+        "add_annotation" => add_annotation(s, step),
+        _ => remove(s, step),
     }
 }
 
-// By a call that takes a position first.
+fn delete(s: &mut Session, step: &mut Step) -> Done {
+    let element = s.trees.element(step)?;
+    asked(s.editors.last_mut()?.delete(step.alloc, element), step)
+}
+
+fn add_annotation_all(s: &mut Session, step: &mut Step) -> Done {
+    let (elements, first) = s.trees.others(step).zip(annotation_of("1"))?;
+    let editor = s.editors.last_mut()?;
+    asked(editor.add_annotation_all(step.alloc, elements, first), step)
+}
+
 fn insert(s: &mut Session, step: &mut Step) -> Done {
-    let alloc = step.alloc;
-    let editor = s.editors.last_mut()?;
-    let at = position(&s.trees, step)?;
-    match step.name {
-        "insert" => asked(editor.insert(alloc, at, s.trees.element(step)?), step),
-        "insert_all" => asked(editor.insert_all(alloc, at, s.trees.others(step)?), step),
-        "insert_with_whitespace" => {
-            let new = s.trees.element(step)?;
-            let called = editor.insert_with_whitespace(alloc, &mut s.trees.ids, at, new);
-            asked(called, step)
-        }
-        _ => {
-            let new = s.trees.others(step)?;
-            let called = editor.insert_all_with_whitespace(alloc, &mut s.trees.ids, at, new);
-            asked(called, step)
-        }
-    }
+    let (at, new) = position(&s.trees, step).zip(s.trees.element(step))?;
+    let (alloc, ids, editor) = (step.alloc, &mut s.trees.ids, s.editors.last_mut()?);
+    asked(
+        match step.name {
+            "insert" => editor.insert(alloc, at, new),
+            _ => editor.insert_with_whitespace(alloc, ids, at, new),
+        },
+        step,
+    )
 }
 
-// By a call that takes an element first.
-fn record_at(s: &mut Session, step: &mut Step) -> Done {
-    let (alloc, trees) = (step.alloc, &s.trees);
+fn insert_all(s: &mut Session, step: &mut Step) -> Done {
+    let (at, new) = position(&s.trees, step).zip(s.trees.others(step))?;
+    let (alloc, ids, editor) = (step.alloc, &mut s.trees.ids, s.editors.last_mut()?);
+    asked(
+        match step.name {
+            "insert_all" => editor.insert_all(alloc, at, new),
+            _ => editor.insert_all_with_whitespace(alloc, ids, at, new),
+        },
+        step,
+    )
+}
+
+// By a call that takes two elements.
+fn record_two(s: &mut Session, step: &mut Step) -> Done {
+    let (first, second) = s.trees.two_elements(step)?;
     let editor = s.editors.last_mut()?;
-    let target = trees.element(step)?;
-    match step.name {
-        "delete_all" => asked(editor.delete_all(alloc, target, trees.element(step)?), step),
-        "replace" => asked(editor.replace(alloc, target, trees.element(step)?), step),
-        "replace_with_many" => {
-            let called = editor.replace_with_many(alloc, target, trees.others(step)?);
-            asked(called, step)
-        }
-        "replace_all" => {
-            let (end, new) = (trees.element(step)?, trees.others(step)?);
-            asked(editor.replace_all(alloc, target, end, new), step)
-        }
-        "add_annotation" => asked(
-            editor.add_annotation(alloc, target, annotation(step)?),
-            step,
-        ),
-        _ => asked(remove_separated(alloc, editor, &target, step.kind()), step),
-    }
+    asked(
+        match step.name {
+            "replace" => editor.replace(step.alloc, first, second),
+            _ => editor.delete_all(step.alloc, first, second),
+        },
+        step,
+    )
+}
+
+fn replace_with_many(s: &mut Session, step: &mut Step) -> Done {
+    let (old, new) = s.trees.element(step).zip(s.trees.others(step))?;
+    asked(
+        s.editors
+            .last_mut()?
+            .replace_with_many(step.alloc, old, new),
+        step,
+    )
+}
+
+fn replace_all(s: &mut Session, step: &mut Step) -> Done {
+    let ((first, end), new) = s.trees.two_elements(step).zip(s.trees.others(step))?;
+    asked(
+        s.editors
+            .last_mut()?
+            .replace_all(step.alloc, first, end, new),
+        step,
+    )
+}
+
+fn add_annotation(s: &mut Session, step: &mut Step) -> Done {
+    let (target, annotation) = s.trees.element(step).zip(annotation(step))?;
+    asked(
+        s.editors
+            .last_mut()?
+            .add_annotation(step.alloc, target, annotation),
+        step,
+    )
+}
+
+// An element of a list, with a separator of a kind.
+fn remove(s: &mut Session, step: &mut Step) -> Done {
+    let (target, separator) = (s.trees.element(step)?, step.kind());
+    asked(
+        remove_separated(step.alloc, s.editors.last_mut()?, &target, separator),
+        step,
+    )
 }
 
 // Of a function or a statement.
-fn remove_attrs_and_docs(editor: &mut SyntaxEditor, node: SyntaxNode, step: &mut Step) -> Done {
+fn remove_attrs_and_docs(s: &mut Session, step: &mut Step) -> Done {
+    let node = s.trees.node(step)?;
+    let editor = s.editors.last_mut()?;
     if Fn::can_cast(node.kind()) {
         return asked(
             Fn::cast(node)?.remove_attrs_and_docs(step.alloc, editor),
             step,
         );
     }
-    let called = LetStmt::cast(node)?.remove_attrs_and_docs(step.alloc, editor);
-    asked(called, step)
+    asked(
+        LetStmt::cast(node)?.remove_attrs_and_docs(step.alloc, editor),
+        step,
+    )
 }

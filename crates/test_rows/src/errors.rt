@@ -7,7 +7,7 @@ use syntax_editor::{
     EditError, EngineError, Error, ExecuteError, IndentError, MapError, MergeError, RecordError,
     WrapError,
 };
-use test_trees::{NoAnswer, Step, errors_of, print_errors, say, say_errors};
+use test_trees::{NoAnswer, Step, errors_of, print_errors, say};
 
 // The refusals of calls of the editor, each by the error that it holds, and others.
 macro_rules! refusals {
@@ -42,17 +42,9 @@ const CHAIN: &[ChainError] =
 /// Of the errors of the type that is named, one after another.
 pub fn print(step: &mut Step) {
     match step.word() {
-        "Engine" => say_errors!(step, ENGINE),
-        "Chain" => say_errors!(step, CHAIN),
-        "AllocError" => {
-            let (any, of_trees) = (Error::from(AllocError), TreeError::from(AllocError));
-            say!(
-                step,
-                "{any}: {} | {of_trees}: {}",
-                any.help(),
-                of_trees.help()
-            );
-        }
+        "Engine" => of_engines(step),
+        "Chain" => of_chains(step),
+        "AllocError" => of_memory(step),
         name => {
             of_editor(name, step);
             if step.text.is_empty() {
@@ -60,6 +52,30 @@ pub fn print(step: &mut Step) {
             }
         }
     }
+}
+
+fn of_engines(step: &mut Step) {
+    for error in ENGINE {
+        step.between(" | ");
+        say!(step, "{error}: {}", error.help());
+    }
+}
+
+fn of_chains(step: &mut Step) {
+    for error in CHAIN {
+        step.between(" | ");
+        say!(step, "{error}: {}", error.help());
+    }
+}
+
+fn of_memory(step: &mut Step) {
+    let (any, of_trees) = (Error::from(AllocError), TreeError::from(AllocError));
+    say!(
+        step,
+        "{any}: {} | {of_trees}: {}",
+        any.help(),
+        of_trees.help()
+    );
 }
 
 // Of those that hold an error of this type, or are of this case.

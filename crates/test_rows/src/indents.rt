@@ -4,15 +4,17 @@ use crate::asked::asked;
 use crate::chains;
 use crate::making::factory;
 use crate::session::Session;
-use cst_core::AstNode;
 use cst_core::ast::{BlockExpr, StmtList};
-use syntax_editor::{AstNodeEdit, IndentError, SyntaxFactory};
+use cst_core::{AstNode, TreeIds};
+use syntax_editor::{AstNodeEdit, IndentError, IndentLevel, SyntaxFactory};
 use test_trees::{CHANGED, Done, Step, level, made, read_level};
 
 /// Takes the step of this name, or passes on what is none of these.
 pub fn answer(s: &mut Session, step: &mut Step) -> Done {
     match step.name {
-        "indent_level" | "indent" | "reset_indent" => of_block(s, step),
+        "indent_level" | "indent" | "reset_indent" => {
+            of_block(&s.trees.typed::<BlockExpr>(step)?, &mut s.trees.ids, step)
+        }
         "dedent" => dedent(s, step),
         "indent_with_mapping" => indent_with_mapping(s, step),
         _ => chains::answer(s, step),
@@ -25,14 +27,13 @@ fn typed_root<N: AstNode>(called: Result<N, IndentError>, step: &mut Step) -> Do
     Some(step.root(node.syntax()))
 }
 
-fn of_block(s: &mut Session, step: &mut Step) -> Done {
-    let block = s.trees.typed::<BlockExpr>(step)?;
+fn of_block(block: &BlockExpr, ids: &mut TreeIds, step: &mut Step) -> Done {
     match step.name {
         "indent_level" => level(block.indent_level(step.alloc), step),
-        "reset_indent" => typed_root(block.reset_indent(step.alloc, &mut s.trees.ids), step),
+        "reset_indent" => typed_root(block.reset_indent(step.alloc, ids), step),
         _ => {
             let level = read_level(step);
-            typed_root(block.indent(step.alloc, &mut s.trees.ids, level), step)
+            typed_root(block.indent(step.alloc, ids, level), step)
         }
     }
 }
@@ -41,11 +42,18 @@ fn of_block(s: &mut Session, step: &mut Step) -> Done {
 fn dedent(s: &mut Session, step: &mut Step) -> Done {
     let (node, level) = (s.trees.node(step)?, read_level(step));
     if StmtList::can_cast(node.kind()) {
-        let called = StmtList::cast(node)?.dedent(step.alloc, &mut s.trees.ids, level);
-        return typed_root(called, step);
+        return dedented(&StmtList::cast(node)?, &mut s.trees.ids, level, step);
     }
-    let called = BlockExpr::cast(node)?.dedent(step.alloc, &mut s.trees.ids, level);
-    typed_root(called, step)
+    dedented(&BlockExpr::cast(node)?, &mut s.trees.ids, level, step)
+}
+
+fn dedented<N: AstNodeEdit>(
+    node: &N,
+    ids: &mut TreeIds,
+    level: IndentLevel,
+    step: &mut Step,
+) -> Done {
+    typed_root(node.dedent(step.alloc, ids, level), step)
 }
 
 // By a factory, whose mapping is the last one from then on, whatever the call answers but want of memory, which leaves

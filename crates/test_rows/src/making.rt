@@ -3,44 +3,56 @@
 use crate::asked::{annotation_of, asked, new_root};
 use crate::session::Session;
 use crate::{editors, errors};
-use cst_core::SyntaxToken;
+use cst_core::{SyntaxElement, SyntaxNode, SyntaxToken};
 use syntax_editor::{Annotations, SyntaxFactory};
-use test_trees::{Done, Step, kind_name, made, read_tree, say};
+use test_trees::{Done, Step, Trees, kind_name, made, read_tree, say};
 
 /// Takes the step of this name, or passes on what is none of these.
 pub fn answer(s: &mut Session, step: &mut Step) -> Done {
     match step.name {
         "errors" => Some(errors::print(step)),
         "annotations" => Some(annotations(step)),
-        "token" => {
-            let (kind, text) = (step.kind(), text_of_tree(step)?);
-            let factory = SyntaxFactory::without_mappings(step.alloc);
-            let called = factory.token(step.alloc, &mut s.trees.ids, kind, &text);
-            show_token(&asked(called, step)?, step)
-        }
-        "whitespace" => {
-            let (factory, text) = (factory(step)?, text_of_tree(step)?);
-            let called = factory.whitespace(step.alloc, &mut s.trees.ids, &text);
-            show_token(&asked(called, step)?, step)
-        }
-        "node" => {
-            let (kind, children) = (step.kind(), s.trees.others(step)?);
-            let factory = SyntaxFactory::without_mappings(step.alloc);
-            let called = factory.node(step.alloc, &mut s.trees.ids, kind, &children);
-            new_root(called, step)
-        }
+        "token" => token(s, step),
+        "whitespace" => whitespace(s, step),
+        "node" => node(s, step),
         "wrap" => wrap(s, step),
-        "map_editor" => {
-            let builder = s.trees.builders.pop()?;
-            asked(s.editors.last_mut()?.add_mapping(step.alloc, builder), step)
-        }
-        "map_all" => {
-            let builder = s.trees.builders.pop()?;
-            let mapping = s.editors.last_mut()?.make_mut().mappings();
-            asked(builder.finish(step.alloc, mapping?), step)
-        }
+        "map_editor" => map_editor(s, step),
+        "map_all" => map_all(s, step),
         _ => editors::answer(s, step),
     }
+}
+
+fn token(s: &mut Session, step: &mut Step) -> Done {
+    let (kind, text) = (step.kind(), text_of_tree(step)?);
+    let factory = SyntaxFactory::without_mappings(step.alloc);
+    let called = factory.token(step.alloc, &mut s.trees.ids, kind, &text);
+    let token = asked(called, step)?;
+    show_token(&token, step)
+}
+
+fn whitespace(s: &mut Session, step: &mut Step) -> Done {
+    let (factory, text) = factory(step).zip(text_of_tree(step))?;
+    let called = factory.whitespace(step.alloc, &mut s.trees.ids, &text);
+    let token = asked(called, step)?;
+    show_token(&token, step)
+}
+
+fn node(s: &mut Session, step: &mut Step) -> Done {
+    let (kind, children) = (step.kind(), s.trees.others(step)?);
+    let factory = SyntaxFactory::without_mappings(step.alloc);
+    let called = factory.node(step.alloc, &mut s.trees.ids, kind, &children);
+    new_root(called, step)
+}
+
+fn map_editor(s: &mut Session, step: &mut Step) -> Done {
+    let builder = s.trees.builders.pop()?;
+    asked(s.editors.last_mut()?.add_mapping(step.alloc, builder), step)
+}
+
+fn map_all(s: &mut Session, step: &mut Step) -> Done {
+    let builder = s.trees.builders.pop()?;
+    let mapping = s.editors.last_mut()?.make_mut().mappings()?;
+    asked(builder.finish(step.alloc, mapping), step)
 }
 
 // Whether the calls of a source that begins at the first number give the annotations of the others, each above the one
@@ -78,19 +90,30 @@ fn show_token(token: &SyntaxToken, step: &mut Step) -> Done {
     say!(step, "ok {} ", kind_name(token.kind()));
     step.quote(token.text());
     let parent = made(token.parent(step.alloc), step)??;
+    show_parent(&parent, step)
+}
+
+fn show_parent(parent: &SyntaxNode, step: &mut Step) -> Done {
     let count = made(parent.children_with_tokens(step.alloc), step)?.len();
-    let (kind, tree) = (kind_name(parent.kind()), token.tree());
+    let (kind, tree) = (kind_name(parent.kind()), parent.tree());
     Some(say!(step, " of {tree}, one of {count} below {kind}"))
 }
 
 // A node, a kind, the elements that stand before `round`, and those after it.
 fn wrap(s: &mut Session, step: &mut Step) -> Done {
-    let editor = s.editors.last_mut()?;
     let (node, kind) = (s.trees.node(step)?, step.kind());
-    let (before, after) = step.rest_around("round");
-    let (before, after) = (s.trees.elements(before), s.trees.elements(after));
-    let (before, after) = (step.read(before)?, step.read(after)?);
+    let (before, after) = elements_around(&s.trees, step)?;
+    let editor = s.editors.last_mut()?;
     let called = editor.wrap(step.alloc, &mut s.trees.ids, &node, kind, &before, &after);
     let copy = asked(called, step)?;
     Some(step.root_at(&copy))
+}
+
+fn elements_around(
+    trees: &Trees,
+    step: &mut Step,
+) -> Option<(Vec<SyntaxElement>, Vec<SyntaxElement>)> {
+    let (before, after) = step.rest_around("round");
+    let (before, after) = (trees.elements(before), trees.elements(after));
+    step.read(before).zip(step.read(after))
 }

@@ -20,14 +20,8 @@ use tree_text::write_tree;
 /// Takes the step of this name, or passes on what is none of these.
 pub fn answer(s: &mut Session, step: &mut Step) -> Done {
     match step.name {
-        "plan" => {
-            let called = s.editors.pop()?.plan(step.alloc);
-            keep(s, called, step)
-        }
-        "register" => {
-            let registration = (s.trees.element(step)?, annotation(step)?);
-            Some(step.note(s.registrations.push(registration)))
-        }
+        "plan" => plan(s, step),
+        "register" => register(s, step),
         "check_changes" => check_changes(s, step),
         "build" => build(s, step),
         "is_empty" | "plan_deletions" | "plan_text" | "default_order" | "text_edits" => {
@@ -40,6 +34,16 @@ pub fn answer(s: &mut Session, step: &mut Step) -> Done {
         "built" => built(s, step),
         _ => runs::answer(s, step),
     }
+}
+
+fn plan(s: &mut Session, step: &mut Step) -> Done {
+    let called = s.editors.pop()?.plan(step.alloc);
+    keep(s, called, step)
+}
+
+fn register(s: &mut Session, step: &mut Step) -> Done {
+    let registration = s.trees.element(step).zip(annotation(step))?;
+    Some(step.note(s.registrations.push(registration)))
 }
 
 // Keeps a plan that a call gave, and answers how many changes it has.
@@ -56,14 +60,17 @@ fn of_plan(plan: &EditPlan, step: &mut Step) -> Done {
         "is_empty" => step.truth(plan.is_empty()),
         "plan_deletions" => deleted_paths(plan.changes(), step),
         "plan_text" => step.made_text(plan.to_string(step.alloc)),
-        "default_order" => {
-            let order = asked(plan.default_order(step.alloc), step)?;
-            step.put("ok");
-            for change in order.iter() {
-                say!(step, " {change}");
-            }
-        }
+        "default_order" => return default_order(plan, step),
         _ => return text_edits(plan, step),
+    }
+    Some(())
+}
+
+fn default_order(plan: &EditPlan, step: &mut Step) -> Done {
+    let order = asked(plan.default_order(step.alloc), step)?;
+    step.put("ok");
+    for change in order.iter() {
+        say!(step, " {change}");
     }
     Some(())
 }
@@ -168,18 +175,37 @@ fn run<E: EditEngine>(s: &mut Session, engine: &mut E, step: &mut Step) -> Done 
 }
 
 // The count of an engine that makes the last plan's tree in one pass, from the next word's number on, if the other
-// engine makes the same tree and paths. A refused run must leave the engine's count as it was.
+// engine makes the same tree and paths.
 fn built(s: &mut Session, step: &mut Step) -> Done {
     let first = if step.has_words() { step.number() } else { 0 };
     let plan = s.plans.last()?;
+    let ((one, builds), other) = one_pass(plan, first, step).zip(spliced(plan, step))?;
+    tell_built(&one, &other, builds, step)
+}
+
+// What an engine makes in one pass, and its count after that. A refused run must leave the count as it was.
+fn one_pass(plan: &EditPlan, first: u64, step: &mut Step) -> Option<(Option<Rewritten>, u64)> {
     let mut engine = OnePassEngine::starting_at(step.alloc, first);
     let called = engine.run(step.alloc, plan);
-    step.demand(called.is_ok() || engine.builds() == first, CHANGED)?;
-    let one = rewritten(called, step)?;
-    let other = rewritten(SpliceEngine::new(step.alloc).run(step.alloc, plan), step)?;
-    match (&one, &other) {
+    if called.is_err() && engine.builds() != first {
+        step.stop(CHANGED);
+    }
+    Some((rewritten(called, step)?, engine.builds()))
+}
+
+fn spliced(plan: &EditPlan, step: &mut Step) -> Option<Option<Rewritten>> {
+    rewritten(SpliceEngine::new(step.alloc).run(step.alloc, plan), step)
+}
+
+fn tell_built(
+    one: &Option<Rewritten>,
+    other: &Option<Rewritten>,
+    builds: u64,
+    step: &mut Step,
+) -> Done {
+    match (one, other) {
         (None, None) => asked(Err(TreeError::TooLong), step),
-        (Some(one), Some(other)) if is_same(one, other, step)? => Some(step.gave(&engine.builds())),
+        (Some(one), Some(other)) if is_same(one, other, step)? => Some(step.gave(&builds)),
         _ => Some(step.put("the engines differ")),
     }
 }
@@ -206,7 +232,7 @@ fn is_same(one: &Rewritten, other: &Rewritten, step: &mut Step) -> Option<bool> 
     if one.green.length() > COMPARED || other.green.length() > COMPARED {
         return Some(one.green.length() == other.green.length());
     }
-    let one = made(write_tree(step.alloc, &one.green), step)?;
-    let other = made(write_tree(step.alloc, &other.green), step)?;
+    let one = made(write_tree(step.alloc, &one.green), step);
+    let (one, other) = one.zip(made(write_tree(step.alloc, &other.green), step))?;
     Some(one == other)
 }

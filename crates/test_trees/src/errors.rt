@@ -1,8 +1,10 @@
 //! What errors of trees as text and of text edits print, and the sentences that say what to do.
 
 use crate::no_answer::NoAnswer;
+use crate::say;
 use crate::step::Step;
 use cst_core::{SyntaxKind, TreeError};
+use std::fmt::Display;
 use text_edit::{ApplyError, ComposeError, OrderError};
 use tree_text::{Expected, ExpressionError, NameError, WriteError};
 
@@ -33,26 +35,64 @@ const APPLY: &[ApplyError] =
 const COMPOSE: &[ComposeError] =
     errors_of! { ComposeError: InsideCharacter { index: 1 }, TooLong { index: 2 }, Memory };
 
-/// What errors of one type print, and their sentences, one after another.
-#[macro_export]
-macro_rules! say_errors {
-    ($step:ident, $errors:expr) => {
-        for error in $errors {
-            $step.between(" | ");
-            $crate::say!($step, "{error}: {}", error.help());
-        }
-    };
+/// An error with a sentence that says what to do.
+trait Helpful {
+    fn sentence(&self) -> &'static str;
+}
+
+impl Helpful for ExpressionError {
+    fn sentence(&self) -> &'static str {
+        self.help()
+    }
+}
+
+impl Helpful for WriteError {
+    fn sentence(&self) -> &'static str {
+        self.help()
+    }
+}
+
+impl Helpful for NameError {
+    fn sentence(&self) -> &'static str {
+        self.help()
+    }
+}
+
+impl Helpful for OrderError {
+    fn sentence(&self) -> &'static str {
+        self.help()
+    }
+}
+
+impl Helpful for ApplyError {
+    fn sentence(&self) -> &'static str {
+        self.help()
+    }
+}
+
+impl Helpful for ComposeError {
+    fn sentence(&self) -> &'static str {
+        self.help()
+    }
+}
+
+/// What errors print, and their sentences, one after another.
+fn say_errors<E: Display + Helpful>(errors: &[E], step: &mut Step) {
+    for error in errors {
+        step.between(" | ");
+        say!(step, "{error}: {}", error.sentence());
+    }
 }
 
 /// Of the errors of this type.
 pub fn print(name: &str, step: &mut Step) {
     match name {
-        "Expression" => say_errors!(step, EXPRESSION),
-        "Write" => say_errors!(step, WRITE),
-        "Name" => say_errors!(step, NAME),
-        "Order" => say_errors!(step, ORDER),
-        "Apply" => say_errors!(step, APPLY),
-        "Compose" => say_errors!(step, COMPOSE),
+        "Expression" => say_errors(EXPRESSION, step),
+        "Write" => say_errors(WRITE, step),
+        "Name" => say_errors(NAME, step),
+        "Order" => say_errors(ORDER, step),
+        "Apply" => say_errors(APPLY, step),
+        "Compose" => say_errors(COMPOSE, step),
         "NoAnswer" => step.put(NoAnswer::from(ExpressionError::Memory).why()),
         _ => step.stop(NoAnswer::Arguments),
     }

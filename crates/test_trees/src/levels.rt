@@ -16,14 +16,16 @@ pub fn answer(trees: &mut Trees, step: &mut Step) -> Done {
         }
         "sum" => Some(sum(step)),
         "print" => Some(print(read_level(step), step)),
-        "free_indent" => {
-            let (node, level) = (trees.node(step)?, read_level(step));
-            let called = indent(step.alloc, &node, &mut trees.ids, level);
-            let root = tried(called, step)?;
-            Some(step.root(&root))
-        }
+        "free_indent" => free_indent(trees, step),
         _ => text_edits::answer(trees, step),
     }
+}
+
+fn free_indent(trees: &mut Trees, step: &mut Step) -> Done {
+    let (node, level) = (trees.node(step)?, read_level(step));
+    let called = indent(step.alloc, &node, &mut trees.ids, level);
+    let root = tried(called, step)?;
+    Some(step.root(&root))
 }
 
 /// The level that the next word says.

@@ -3,55 +3,59 @@
 use crate::step::{Done, Step, granted, made, tried};
 use crate::trees::Trees;
 use crate::{levels, say};
+use cst_core::SyntaxElement;
 use edit_map::{MapError, SyntaxMapping, SyntaxMappingBuilder};
 
 /// Takes the step of this name, or passes on what is none of these.
 pub fn answer(trees: &mut Trees, step: &mut Step) -> Done {
     match step.name {
-        "builder" => {
-            let builder = SyntaxMappingBuilder::new(step.alloc, trees.node(step)?);
-            Some(step.note(trees.builders.push(builder)))
-        }
-        "map_node" => {
-            let (input, output) = trees.two_nodes(step)?;
-            tried(
-                trees
-                    .builders
-                    .last_mut()?
-                    .map_node(step.alloc, input, output),
-                step,
-            )
-        }
-        "map_children" => {
-            let (inputs, outputs) = step.rest_around(" to ");
-            let (inputs, outputs) = (trees.nodes(inputs), trees.nodes(outputs));
-            let (inputs, outputs) = (step.read(inputs)?, step.read(outputs)?);
-            let builder = trees.builders.last_mut()?;
-            tried(builder.map_children(step.alloc, &inputs, &outputs), step)
-        }
+        "builder" => builder(trees, step),
+        "map_node" => map_node(trees, step),
+        "map_children" => map_children(trees, step),
         "map" => map(trees, step),
-        "finish_builder" => {
-            let builder = trees.builders.pop()?;
-            granted(builder.finish(step.alloc, trees.mappings.last_mut()?), step)
-        }
-        "add_mapping" => {
-            let builder = trees.builders.pop()?;
-            granted(
-                trees.mappings.last_mut()?.add_mapping(step.alloc, builder),
-                step,
-            )
-        }
+        "finish_builder" | "add_mapping" => map_by(trees.builders.pop()?, trees, step),
         "mapping" => Some(step.note(trees.mappings.push(SyntaxMapping::new(step.alloc)))),
-        "merge_mappings" => {
-            let other = trees.mappings.pop()?;
-            granted(trees.mappings.last_mut()?.merge(step.alloc, other), step)
-        }
+        "merge_mappings" => merge(trees.mappings.pop()?, trees, step),
         "clone_mapping" => clone_mapping(trees, step),
         "drop_mapping" => Some(drop(trees.mappings.pop())),
         "place" => place(trees, step),
         "follow" => follow(trees, step),
         _ => levels::answer(trees, step),
     }
+}
+
+fn builder(trees: &mut Trees, step: &mut Step) -> Done {
+    let builder = SyntaxMappingBuilder::new(step.alloc, trees.node(step)?);
+    Some(step.note(trees.builders.push(builder)))
+}
+
+fn map_node(trees: &mut Trees, step: &mut Step) -> Done {
+    let (input, output) = trees.two_nodes(step)?;
+    let builder = trees.builders.last_mut()?;
+    tried(builder.map_node(step.alloc, input, output), step)
+}
+
+fn map_children(trees: &mut Trees, step: &mut Step) -> Done {
+    let (inputs, outputs) = step.rest_around(" to ");
+    let (inputs, outputs) = (trees.nodes(inputs), trees.nodes(outputs));
+    let (inputs, outputs) = step.read(inputs).zip(step.read(outputs))?;
+    let builder = trees.builders.last_mut()?;
+    tried(builder.map_children(step.alloc, &inputs, &outputs), step)
+}
+
+// The builder's pairs go into the last mapping, by its call or by the mapping's.
+fn map_by(builder: SyntaxMappingBuilder, trees: &mut Trees, step: &mut Step) -> Done {
+    let mapping = trees.mappings.last_mut()?;
+    let called = match step.name {
+        "add_mapping" => mapping.add_mapping(step.alloc, builder),
+        _ => builder.finish(step.alloc, mapping),
+    };
+    granted(called, step)
+}
+
+fn merge(other: SyntaxMapping, trees: &mut Trees, step: &mut Step) -> Done {
+    let mapping = trees.mappings.last_mut()?;
+    granted(mapping.merge(step.alloc, other), step)
 }
 
 // A builder of the copy's parent, with one pair. Where memory runs out there is no such builder, so that the step can
@@ -79,26 +83,32 @@ fn clone_mapping(trees: &mut Trees, step: &mut Step) -> Done {
 }
 
 fn place(trees: &Trees, step: &mut Step) -> Done {
-    let mapping = trees.mappings.last()?;
     let (target, within) = trees.two_nodes(step)?;
-    match granted(mapping.place(step.alloc, &target, &within), step)? {
+    let called = trees.mappings.last()?.place(step.alloc, &target, &within);
+    Some(tell_place(&granted(called, step)?, step))
+}
+
+fn tell_place(place: &Option<Vec<usize>>, step: &mut Step) {
+    match place {
         Some(path) => {
             step.put("ok ");
-            step.path(&path);
+            step.path(path);
         }
         None => step.put("none"),
     }
-    Some(())
+}
+
+fn follow(trees: &Trees, step: &mut Step) -> Done {
+    let start = trees.element(step)?;
+    let called = trees.mappings.last()?.follow(step.alloc, &start);
+    Some(tell_end(&granted(called, step)?, step))
 }
 
 // The form of the element, its text, the number of its tree and its path.
-fn follow(trees: &Trees, step: &mut Step) -> Done {
-    let mapping = trees.mappings.last()?;
-    let start = trees.element(step)?;
-    let end = granted(mapping.follow(step.alloc, &start), step)?;
+fn tell_end(end: &SyntaxElement, step: &mut Step) {
     let is_node = end.as_node().is_some();
     step.put(if is_node { "ok node " } else { "ok token " });
     step.made_text(end.text(step.alloc));
     say!(step, " of {} at ", end.tree());
-    Some(step.path(end.slots()))
+    step.path(end.slots());
 }

@@ -6,43 +6,52 @@ use crate::step::{Done, Step, given, tried};
 use crate::trees::{Trees, read_tree};
 use crate::words::number_of;
 use crate::{errors, positions};
-use cst_core::{GreenNode, SyntaxKind, SyntaxNode, TreeIds};
+use cst_core::{GreenElement, GreenNode, SyntaxKind, SyntaxNode, TreeIds};
 use std::alloc::Global;
 
 /// Takes the step of this name, or passes on what is none of these.
 pub fn answer(trees: &mut Trees, step: &mut Step) -> Done {
     match step.name {
-        "tree" => {
-            let name = step.word();
-            let root = new_root(step.alloc, &mut trees.ids, step.rest());
-            let kept = trees.add(name, step.read(root)?);
-            step.read(kept)
-        }
+        "tree" => tree(trees, step),
         "numbers" => numbers(trees, step),
-        "new_root" => {
-            let green = trees.tree(step.rest());
-            let green = step.read(green)?;
-            let called = SyntaxNode::new_root(step.alloc, &mut trees.ids, green);
-            let root = tried(called, step)?;
-            Some(step.root(&root))
-        }
+        "new_root" => root_of_tree(trees, step),
         "clone_subtree" => clone_subtree(trees, step),
-        "green_node" => {
-            let called = GreenNode::new(step.alloc, SyntaxKind::NAME, trees.greens(step)?);
-            let node = tried(called, step)?;
-            Some(step.gave(&node))
-        }
-        "capped" => {
-            let called = GreenNode::capped(step.alloc, SyntaxKind::NAME, trees.greens(step)?);
-            let node = given("GreenNode::capped", called, step)?;
-            Some(step.gave(&node))
-        }
+        "green_node" => green_node(trees.greens(step)?, step),
+        "capped" => capped(trees.greens(step)?, step),
         "splice_children" => splice_children(trees, step),
         "next" => Some(step.gave_or_none(&trees.ids.next())),
         "peek" => Some(peek(&trees.ids, step)),
         "errors" => Some(errors::print(step.word(), step)),
         _ => positions::answer(trees, step),
     }
+}
+
+fn tree(trees: &mut Trees, step: &mut Step) -> Done {
+    let name = step.word();
+    let root = new_root(step.alloc, &mut trees.ids, step.rest());
+    let kept = trees.add(name, step.read(root)?);
+    step.read(kept)
+}
+
+fn root_of_tree(trees: &mut Trees, step: &mut Step) -> Done {
+    let green = trees.tree(step.rest());
+    let called = SyntaxNode::new_root(step.alloc, &mut trees.ids, step.read(green)?);
+    let root = tried(called, step)?;
+    Some(step.root(&root))
+}
+
+// A shared node of these elements, by the call that refuses a long one, or by the other one.
+
+fn green_node(children: Vec<GreenElement>, step: &mut Step) -> Done {
+    let called = GreenNode::new(step.alloc, SyntaxKind::NAME, children);
+    let node = tried(called, step)?;
+    Some(step.gave(&node))
+}
+
+fn capped(children: Vec<GreenElement>, step: &mut Step) -> Done {
+    let called = GreenNode::capped(step.alloc, SyntaxKind::NAME, children);
+    let node = given("GreenNode::capped", called, step)?;
+    Some(step.gave(&node))
 }
 
 // The root of a new tree.
@@ -81,7 +90,16 @@ fn clone_subtree(trees: &mut Trees, step: &mut Step) -> Done {
 fn splice_children(trees: &Trees, step: &mut Step) -> Done {
     let node = trees.tree(step.word());
     let (start, end) = (step.number(), step.number());
-    let (node, new) = (step.read(node)?, trees.greens(step)?);
+    splice(&step.read(node)?, start, end, trees.greens(step)?, step)
+}
+
+fn splice(
+    node: &GreenNode,
+    start: usize,
+    end: usize,
+    new: Vec<GreenElement>,
+    step: &mut Step,
+) -> Done {
     if start > end || end > node.children().len() {
         return step.end_by(NoAnswer::Arguments);
     }

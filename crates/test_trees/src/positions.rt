@@ -4,77 +4,112 @@ use crate::step::{Done, Step, given, granted, made};
 use crate::trees::Trees;
 use crate::{mappings, say};
 use cst_core::ast::{BlockExpr, Fn, LetStmt, StmtList};
-use cst_core::{AstNode, SyntaxKind};
+use cst_core::{AstNode, SyntaxElement, SyntaxKind, SyntaxNode};
 use edit_change::{Change, Element, ElementList, Position};
 
 /// Takes the step of this name, or passes on what is none of these.
 pub fn answer(trees: &mut Trees, step: &mut Step) -> Done {
     match step.name {
         "before" | "after" | "first" | "last" => {
-            let position = gap(trees, step.name, step)?;
-            Some(step.put(if position.is_some() { "ok" } else { "none" }))
+            let is_there = position_at(trees, step.name, step).is_some();
+            Some(step.put(if is_there { "ok" } else { "none" }))
         }
-        "change" => {
-            let change = next_change(trees, step)?;
-            Some(step.note(trees.changes.push(change)))
-        }
-        "syntax_element" => of_value(trees.element(step)?, step),
-        "typed_element" => typed_element(trees, step),
+        "change" => change(trees, step),
+        "syntax_element" => of_value(&trees.element(step)?, step),
+        "typed_element" => typed_element(trees.node(step)?, step),
         _ => mappings::answer(trees, step),
     }
 }
 
-// The gap at one side of the node or of the element of the next word, if one is there.
-fn gap(trees: &Trees, side: &str, step: &mut Step) -> Option<Option<Position>> {
-    let alloc = step.alloc;
+/// The position that two words say, if one is there: `first NODE`, `last NODE`, `before REF` or `after REF`.
+pub fn position(trees: &Trees, step: &mut Step) -> Option<Position> {
+    position_at(trees, step.word(), step)
+}
+
+// At one side of the node or of the element of the next word.
+fn position_at(trees: &Trees, side: &str, step: &mut Step) -> Option<Position> {
     match side {
-        "before" => given(
-            "Position::before",
-            Position::before(alloc, trees.element(step)?),
-            step,
-        ),
-        "after" => given(
-            "Position::after",
-            Position::after(alloc, &trees.element(step)?),
-            step,
-        ),
-        "first" => {
-            let called = Position::first_child_of(alloc, &trees.node(step)?);
-            Some(Some(given("Position::first_child_of", called, step)?))
-        }
-        "last" => {
-            let called = Position::last_child_of(alloc, &trees.node(step)?);
-            Some(Some(given("Position::last_child_of", called, step)?))
-        }
+        "before" => before(trees.element(step)?, step),
+        "after" => after(&trees.element(step)?, step),
+        "first" => first(&trees.node(step)?, step),
+        "last" => last(&trees.node(step)?, step),
         _ => None,
     }
 }
 
-/// The position that two words say: `first NODE`, `last NODE`, `before REF` or `after REF`.
-pub fn position(trees: &Trees, step: &mut Step) -> Option<Position> {
-    gap(trees, step.word(), step)?
+fn before(element: SyntaxElement, step: &mut Step) -> Option<Position> {
+    given(
+        "Position::before",
+        Position::before(step.alloc, element),
+        step,
+    )?
+}
+
+fn after(element: &SyntaxElement, step: &mut Step) -> Option<Position> {
+    given(
+        "Position::after",
+        Position::after(step.alloc, element),
+        step,
+    )?
+}
+
+fn first(node: &SyntaxNode, step: &mut Step) -> Option<Position> {
+    given(
+        "Position::first_child_of",
+        Position::first_child_of(step.alloc, node),
+        step,
+    )
+}
+
+fn last(node: &SyntaxNode, step: &mut Step) -> Option<Position> {
+    given(
+        "Position::last_child_of",
+        Position::last_child_of(step.alloc, node),
+        step,
+    )
 }
 
 // One more change of the plan that is built.
+fn change(trees: &mut Trees, step: &mut Step) -> Done {
+    let change = next_change(trees, step)?;
+    Some(step.note(trees.changes.push(change)))
+}
+
 fn next_change(trees: &Trees, step: &mut Step) -> Option<Change> {
     match step.word() {
-        "insert" => Some(Change::Insert(position(trees, step)?, trees.element(step)?)),
-        "insert_all" => Some(Change::InsertAll(position(trees, step)?, list(trees, step)?)),
+        "insert" => insert(trees, step),
+        "insert_all" => insert_all(trees, step),
         "delete" => Some(Change::Replace(trees.element(step)?, None)),
-        "replace" => Some(Change::Replace(trees.element(step)?, Some(trees.element(step)?))),
-        "replace_with_many" => {
-            Some(Change::ReplaceWithMany(trees.element(step)?, list(trees, step)?))
-        }
-        "replace_all" => {
-            let (first, end) = (trees.element(step)?, trees.element(step)?);
-            Some(Change::ReplaceAll(first, end, list(trees, step)?))
-        }
+        "replace" => replace(trees, step),
+        "replace_with_many" => replace_with_many(trees, step),
+        "replace_all" => replace_all(trees, step),
         _ => None,
     }
 }
 
-fn list(trees: &Trees, step: &mut Step) -> Option<ElementList> {
-    Some(ElementList::from(trees.others(step)?))
+fn insert(trees: &Trees, step: &mut Step) -> Option<Change> {
+    let (at, new) = position(trees, step).zip(trees.element(step))?;
+    Some(Change::Insert(at, new))
+}
+
+fn insert_all(trees: &Trees, step: &mut Step) -> Option<Change> {
+    let (at, new) = position(trees, step).zip(trees.others(step))?;
+    Some(Change::InsertAll(at, ElementList::from(new)))
+}
+
+fn replace(trees: &Trees, step: &mut Step) -> Option<Change> {
+    let (old, new) = trees.two_elements(step)?;
+    Some(Change::Replace(old, Some(new)))
+}
+
+fn replace_with_many(trees: &Trees, step: &mut Step) -> Option<Change> {
+    let (old, new) = trees.element(step).zip(trees.others(step))?;
+    Some(Change::ReplaceWithMany(old, ElementList::from(new)))
+}
+
+fn replace_all(trees: &Trees, step: &mut Step) -> Option<Change> {
+    let ((first, end), new) = trees.two_elements(step).zip(trees.others(step))?;
+    Some(Change::ReplaceAll(first, end, ElementList::from(new)))
 }
 
 /// The paths of what changes delete, one element each, in the order of the changes.
@@ -118,8 +153,7 @@ fn of_value<E: Element>(value: E, step: &mut Step) -> Done {
 }
 
 // The element by a reference to the typed node of its kind.
-fn typed_element(trees: &Trees, step: &mut Step) -> Done {
-    let node = trees.node(step)?;
+fn typed_element(node: SyntaxNode, step: &mut Step) -> Done {
     match node.kind() {
         SyntaxKind::BLOCK_EXPR => of_value(&BlockExpr::cast(node)?, step),
         SyntaxKind::STMT_LIST => of_value(&StmtList::cast(node)?, step),

@@ -35,7 +35,7 @@ pub struct Rows<S> {
     pub refused: String,
     /// What the steps of the row answer that are asked about.
     pub answers: String,
-    // The calls that rows asked about, each with the first word of what it answered, as `CALL ANSWER`.
+    // The calls that rows asked about, each with the first word of what it answered, as `CALL answers ANSWER`.
     asked: Vec<String>,
 }
 
@@ -50,10 +50,9 @@ impl<S: Steps> Rows<S> {
         }
     }
 
-    /// Whether a row has this answer of a call.
-    pub fn has_asked(&self, call: &str, answer: &str) -> bool {
-        let owed = Some((call, answer));
-        self.asked.iter().any(|pair| pair.split_once(' ') == owed)
+    /// Whether a row has this answer of a call, as `CALL answers ANSWER`.
+    pub fn has_asked(&self, pair: &String) -> bool {
+        self.asked.contains(pair)
     }
 
     /// Takes the steps of a row in their order. The last one and each after `?` is asked about.
@@ -96,7 +95,7 @@ impl<S: Steps> Rows<S> {
     fn note(&mut self, call: &str, answer: &str) -> Taken {
         let before = if self.answers.is_empty() { "" } else { " ; " };
         write!(self.answers, "{before}{answer}")?;
-        let pair = format!(in self.alloc; "{call} {}", first_word(answer).0)?;
+        let pair = format!(in self.alloc; "{call} answers {}", first_word(answer).0)?;
         Ok(self.asked.push(pair)?)
     }
 

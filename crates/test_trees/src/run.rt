@@ -15,7 +15,7 @@ pub const REFUSED: u8 = 3;
 pub struct Run<S> {
     alloc: Global,
     rows: Rows<S>,
-    // The calls that owe rows, each with what stands after `owes` in its line.
+    // The answers that calls owe rows for, each as `CALL answers ANSWER`.
     owed: Vec<String>,
     // Of the table itself; each group has its own.
     part: Part,
@@ -112,8 +112,12 @@ impl<S: Steps> Run<S> {
     }
 
     fn owe(&mut self, call: &str) -> Taken {
-        let call = String::from_str(self.alloc, call)?;
-        Ok(self.owed.push(call)?)
+        let (call, named) = first_word(call);
+        for answer in first_word(named).1.split(' ') {
+            self.owed
+                .push(format!(in self.alloc; "{call} answers {answer}")?)?;
+        }
+        Ok(())
     }
 
     // Notes a line that ended because memory ran out, or for another reason, which goes wrong.
@@ -139,21 +143,16 @@ impl<S: Steps> Run<S> {
     }
 
     // Says each answer that a call owes and that no row has, and how many one has. Gives the number of the others.
-    fn note_missing(&mut self) -> u32 {
-        let mut all = 0_u32;
-        let mut lacks = 0_u32;
+    fn note_missing(&mut self) -> usize {
+        let mut lacks = 0_usize;
         let owed = replace(&mut self.owed, Vec::new(self.alloc));
-        for line in &owed {
-            let (call, named) = first_word(line);
-            for answer in first_word(named).1.split(' ') {
-                all = all.saturating_add(1);
-                if !self.rows.has_asked(call, answer) {
-                    lacks = lacks.saturating_add(1);
-                    print_line!(self, "no row: {call} answers {answer}");
-                }
+        for pair in &owed {
+            if !self.rows.has_asked(pair) {
+                lacks = lacks.saturating_add(1);
+                print_line!(self, "no row: {pair}");
             }
         }
-        let have = all.saturating_sub(lacks);
+        let (all, have) = (owed.len(), owed.len().saturating_sub(lacks));
         print_line!(
             self,
             "{have} of {all} owed pairs of a call and its answer have a row"

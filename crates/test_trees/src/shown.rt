@@ -3,8 +3,8 @@
 use crate::say;
 use crate::step::{Step, kind_name};
 use cst_core::{
-    GreenElement, GreenElementRef, GreenNode, GreenToken, SyntaxElement, SyntaxNode, SyntaxToken,
-    TokenAtOffset,
+    GreenElement, GreenElementRef, GreenNode, GreenToken, SyntaxElement, SyntaxKind, SyntaxNode,
+    SyntaxToken, TokenAtOffset,
 };
 
 // Texts of shared trees up to this length are shown.
@@ -24,6 +24,13 @@ impl Show for u64 {
 impl Show for usize {
     fn show(&self, step: &mut Step) {
         step.print(self);
+    }
+}
+
+// Its number.
+impl Show for SyntaxKind {
+    fn show(&self, step: &mut Step) {
+        step.print(&self.0);
     }
 }
 

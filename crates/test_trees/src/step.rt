@@ -86,8 +86,9 @@ pub fn granted<T, E: Drop>(called: Result<T, E>, step: &mut Step) -> Option<T> {
     given(STEP, called, step)
 }
 
-/// Shows what a call gave that may be refused so.
+/// Shows what a call gave that may be refused so, after what others gave.
 pub fn told<T: Show + Drop, E: Drop>(call: &'static str, called: Result<T, E>, step: &mut Step) {
+    step.between(" | ");
     if let Some(given) = given(call, called, step) {
         given.show(step);
     }
@@ -170,9 +171,9 @@ impl<'a> Step<'a> {
     }
 
     /// The slots of the path that the next word is.
-    pub fn slots(&mut self) -> Option<Vec<usize>> {
+    pub fn slots(&mut self) -> Vec<usize> {
         let read = slots_of(self.alloc, self.word());
-        self.read(read)
+        self.read(read).unwrap_or(Vec::new(self.alloc))
     }
 
     /// All that is left, as it stands.
@@ -192,9 +193,9 @@ impl<'a> Step<'a> {
     }
 
     /// What the text between quotes that is left stands for.
-    pub fn unquoted(&mut self) -> Option<String> {
+    pub fn unquoted(&mut self) -> String {
         let read = unquote(self.alloc, self.rest());
-        self.read(read)
+        self.read(read).unwrap_or(String::new(self.alloc))
     }
 
     /// It ends early, for this reason or for one before it.

@@ -16,16 +16,13 @@ pub fn answer(trees: &mut Trees, step: &mut Step) -> Done {
         "edits" => edits(trees, step),
         "listed" => Some(listed(trees.lists.last()?, step)),
         "then" => then(trees, step),
-        "cursor" => {
-            let (start, end) = (step.number(), step.number());
-            Some(step.gave_or_none(&trees.lists.last()?.cursor(start, end)))
-        }
+        "cursor" => cursor(trees.lists.last()?, step),
         "apply" | "inverse" | "trimmed" => on_text(trees, step),
-        "line_col" | "offset" | "to_utf16" | "to_utf32" | "from_utf16" | "from_utf32" => of_lines(
-            step,
-        ),
+        "line_col" | "offset" | "to_utf16" | "to_utf32" | "from_utf16" | "from_utf32" => {
+            of_lines(step)
+        }
         "utf16" | "utf32" => {
-            let text = step.unquoted()?;
+            let text = step.unquoted();
             Some(step.print(&encoding(step.name).measure(&text)))
         }
         _ => texts::answer(trees, step),
@@ -100,17 +97,24 @@ fn then(trees: &mut Trees, step: &mut Step) -> Done {
 // What the last list makes of a text; or what takes it back, or it without what it leaves as it was, which is the last
 // one then.
 fn on_text(trees: &mut Trees, step: &mut Step) -> Done {
-    let text = step.unquoted()?;
+    let text = step.unquoted();
     let edits = trees.lists.last()?;
     let made = match step.name {
         "inverse" => edits.inverse(step.alloc, &text),
         "trimmed" => edits.trimmed(step.alloc, &text),
-        _ => {
-            let new = tried(edits.apply(step.alloc, &text), step)?;
-            return Some(step.gave(&new));
-        }
+        _ => return apply(edits, &text, step),
     };
     keep(trees, made, step)
+}
+
+fn apply(edits: &TextEdits, text: &str, step: &mut Step) -> Done {
+    let new = tried(edits.apply(step.alloc, text), step)?;
+    Some(step.gave(&new))
+}
+
+fn cursor(edits: &TextEdits, step: &mut Step) -> Done {
+    let (start, end) = (step.number(), step.number());
+    Some(step.gave_or_none(&edits.cursor(start, end)))
 }
 
 impl Show for Cursor {
@@ -131,21 +135,21 @@ fn encoding(name: &str) -> WideEncoding {
 // stands last.
 fn of_lines(step: &mut Step) -> Done {
     let line = step.number();
-    let col = if step.name == "line_col" {
-        0
-    } else {
-        step.number()
-    };
-    let text = step.unquoted()?;
-    let index = given("LineIndex::new", LineIndex::new(step.alloc, &text), step)?;
+    let has_col = step.name != "line_col";
+    let col = if has_col { step.number() } else { 0 };
+    let text = step.unquoted();
+    let called = LineIndex::new(step.alloc, &text);
+    Some(tell_place(&given("LineIndex::new", called, step)?, line, col, step))
+}
+
+fn tell_place(index: &LineIndex, line: u64, col: u64, step: &mut Step) {
     if step.name == "offset" {
-        return Some(step.gave_or_none(&index.offset(LineCol { line, col })));
+        return step.gave_or_none(&index.offset(LineCol { line, col }));
     }
-    match place(&index, step.name, line, col) {
+    match place(index, step.name, line, col) {
         Some(place) => say!(step, "ok {} {}", place.line, place.col),
         None => step.put("none"),
     }
-    Some(())
 }
 
 fn place(index: &LineIndex, name: &str, line: u64, col: u64) -> Option<LineCol> {

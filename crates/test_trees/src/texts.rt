@@ -9,8 +9,8 @@ use crate::step::{CHANGED, Done, Step, given, made, told};
 use crate::trees::Trees;
 use crate::{say, values};
 use cst_core::{
-    GreenElement, GreenNode, GreenToken, KIND_NAMES, LENGTH_LIMIT, SyntaxElement, SyntaxKind,
-    SyntaxNode, TreeIds,
+    GreenElement, GreenElementRef, GreenNode, GreenToken, KIND_NAMES, LENGTH_LIMIT, SyntaxElement,
+    SyntaxKind, SyntaxNode, TreeIds,
 };
 use tree_text::{
     ExpressionError, KindNames, NameError, WriteError, dump, dump_node, read_line_tree, read_root,
@@ -19,53 +19,46 @@ use tree_text::{
 
 /// Takes the step of this name, or passes on what is none of these. A name `-` is given to no kind.
 pub fn answer(trees: &Trees, step: &mut Step) -> Done {
-    let alloc = step.alloc;
     match step.name {
-        "kind_name" => {
-            let kind = SyntaxKind(step.number());
-            Some(step.put(checked_name(kind)))
-        }
-        "kind_from_name" => {
-            match SyntaxKind::from_name(&step.unquoted()?) {
-                Some(kind) => step.print(&kind.0),
-                None => step.put("none"),
-            }
-            Some(())
-        }
-        "green_token" => green_token(step),
         "get" => get(trees, step),
-        "read" => Some(value_or_why(green(alloc, &step.unquoted()?), step)),
-        "row" => Some(value_or_why(row(alloc, step.rest()), step)),
-        "limit" => Some(LENGTH_LIMIT.show(step)),
-        "doubled" => {
-            match p(alloc, step.number()) {
-                Ok(tree) => step.print(&tree.length()),
-                Err(why) => put_why(why, step),
-            }
-            Some(())
-        }
-        "read_tree" => Some(read_by("read_tree", read_tree(alloc, &step.unquoted()?), step)),
-        "read_line_tree" => {
-            Some(read_by(
-                "read_line_tree",
-                read_line_tree(alloc, &step.unquoted()?),
-                step,
-            ))
-        }
-        "read_root" => root(step),
-        "write_tree" => {
-            let tree = trees.tree(step.rest());
-            Some(written("write_tree", write_tree(alloc, &step.read(tree)?), step))
-        }
+        "write_tree" => write(trees, step),
         "write_named" => write_named(trees, step),
         "read_named" => read_named(step),
-        "dump" => {
-            let element = trees.element(step)?;
-            Some(told("dump", dump(alloc, &element, &KindNames::new(alloc)), step))
-        }
+        "dump" => dump_one(trees, step),
         "dump_named" => dump_named(trees, step),
         "name_kind" => name_kind(step),
+        "green_token" => green_token(step),
+        "row" => Some(value_or_why(row(step.alloc, step.rest()), step)),
+        "limit" => Some(LENGTH_LIMIT.show(step)),
+        "kind_name" | "doubled" => Some(of_number(step)),
+        "kind_from_name" | "read" | "read_tree" | "read_line_tree" => {
+            Some(of_text(&step.unquoted(), step))
+        }
+        "read_root" => Some(root(step)),
         _ => values::answer(trees, step),
+    }
+}
+
+// The name of the kind of a number, or the length of the tree P of that number.
+fn of_number(step: &mut Step) {
+    if step.name == "kind_name" {
+        let kind = SyntaxKind(step.number());
+        return step.put(checked_name(kind));
+    }
+    match p(step.alloc, step.number()) {
+        Ok(tree) => step.print(&tree.length()),
+        Err(why) => put_why(why, step),
+    }
+}
+
+// The kind that has a name, or the tree that is read of a text.
+fn of_text(text: &str, step: &mut Step) {
+    let alloc = step.alloc;
+    match step.name {
+        "kind_from_name" => SyntaxKind::from_name(text).show(step),
+        "read" => value_or_why(green(alloc, text), step),
+        "read_tree" => read_by("read_tree", read_tree(alloc, text), step),
+        _ => read_by("read_line_tree", read_line_tree(alloc, text), step),
     }
 }
 
@@ -116,16 +109,14 @@ fn put_why(why: NoAnswer, step: &mut Step) {
 // A token of a kind by its number, and that token shared.
 fn green_token(step: &mut Step) -> Done {
     let kind = SyntaxKind(step.number());
-    let text = step.unquoted()?;
-    let token = given(
-        "GreenToken::new",
-        GreenToken::new(step.alloc, kind, &text),
-        step,
-    )?;
+    let called = GreenToken::new(step.alloc, kind, &step.unquoted());
+    twice(&given("GreenToken::new", called, step)?, step)
+}
+
+fn twice(token: &GreenToken, step: &mut Step) -> Done {
     let shared = made(token.share(step.alloc), step)?;
-    if shared.kind() != token.kind() || shared.text() != token.text() {
-        return Some(step.put("another token where it is shared"));
-    }
+    let is_same = shared.kind() == token.kind() && shared.text() == token.text();
+    step.demand(is_same, NoAnswer::Row("another token where it is shared"))?;
     say!(step, "{} ", token.kind().0);
     Some(shared.show(step))
 }
@@ -133,15 +124,26 @@ fn green_token(step: &mut Step) -> Done {
 // In the tree, and with tree and element shared.
 fn get(trees: &Trees, step: &mut Step) -> Done {
     let tree = trees.tree(step.word());
-    let (tree, slots) = (step.read(tree)?, step.slots()?);
-    let Some(element) = tree.get(&slots) else {
-        return Some(step.put("none"));
-    };
+    let (tree, slots) = (step.read(tree)?, step.slots());
+    Some(match tree.get(&slots) {
+        Some(element) => element_and_shared(element, step),
+        None => step.put("none"),
+    })
+}
+
+fn element_and_shared(element: GreenElementRef, step: &mut Step) {
     element.show(step);
     let mut other = step.beside();
-    let shared = made(element.share(step.alloc), step)?;
-    made(shared.share(step.alloc), step)?.show(&mut other);
-    Some(step.agree(&other))
+    if let Some(shared) = made(element.share(step.alloc), step) {
+        show_shared(&shared, &mut other);
+    }
+    step.agree(&other);
+}
+
+fn show_shared(element: &GreenElement, step: &mut Step) {
+    if let Some(shared) = made(element.share(step.alloc), step) {
+        shared.show(step);
+    }
 }
 
 // What an error prints, and its sentence.
@@ -161,20 +163,21 @@ fn read_by(call: &'static str, read: Result<GreenNode, ExpressionError>, step: &
 }
 
 // Of a root its number, and of any such call the number that comes next.
-fn root(step: &mut Step) -> Done {
+fn root(step: &mut Step) {
     let mut ids = TreeIds::new(step.number());
-    let expression = step.unquoted()?;
     let before = ids.peek();
-    match read_root(step.alloc, &mut ids, &expression) {
-        Ok(node) => {
-            say!(step, "{} ", node.tree());
-            node.as_green().show(step);
-        }
+    match read_root(step.alloc, &mut ids, &step.unquoted()) {
+        Ok(node) => number_and_tree(&node, step),
         Err(error) if ids.peek() == before => refused("read_root", &error, step),
         Err(_) => step.stop(CHANGED),
     }
     step.put(", then ");
-    Some(ids.peek().show(step))
+    ids.peek().show(step);
+}
+
+fn number_and_tree(node: &SyntaxNode, step: &mut Step) {
+    say!(step, "{} ", node.tree());
+    node.as_green().show(step);
 }
 
 // Of a call that writes a tree.
@@ -210,21 +213,34 @@ fn above(trees: &Trees, kind: SyntaxKind, step: &mut Step) -> Option<GreenNode> 
     made(GreenNode::new(step.alloc, kind, children), step)
 }
 
+fn write(trees: &Trees, step: &mut Step) -> Done {
+    let tree = trees.tree(step.rest());
+    let called = write_tree(step.alloc, &step.read(tree)?);
+    Some(written("write_tree", called, step))
+}
+
 fn write_named(trees: &Trees, step: &mut Step) -> Done {
     let (kind, names) = names(step)?;
-    let tree = above(trees, kind, step)?;
-    let called = write_tree_with(step.alloc, &tree, &names);
+    let called = write_tree_with(step.alloc, &above(trees, kind, step)?, &names);
     Some(written("write_tree_with", called, step))
 }
 
 fn read_named(step: &mut Step) -> Done {
     let (_, names) = names(step)?;
-    let expression = step.unquoted()?;
-    let read = read_tree_with(step.alloc, &expression, &names);
+    let read = read_tree_with(step.alloc, &step.unquoted(), &names);
     if let Ok(tree) = &read {
         say!(step, "{} ", tree.kind().0);
     }
     Some(read_by("read_tree_with", read, step))
+}
+
+fn dump_one(trees: &Trees, step: &mut Step) -> Done {
+    let element = trees.element(step)?;
+    Some(told(
+        "dump",
+        dump(step.alloc, &element, &KindNames::new(step.alloc)),
+        step,
+    ))
 }
 
 // Of the node, and of it as an element.
@@ -232,29 +248,34 @@ fn dump_named(trees: &Trees, step: &mut Step) -> Done {
     let (kind, names) = names(step)?;
     let tree = above(trees, kind, step)?;
     let root = SyntaxNode::new_root(step.alloc, &mut TreeIds::new(1), tree);
-    let node = made(root, step)?;
-    told("dump_node", dump_node(step.alloc, &node, &names), step);
+    Some(dump_both(made(root, step)?, &names, step))
+}
+
+fn dump_both(node: SyntaxNode, names: &KindNames, step: &mut Step) {
+    told("dump_node", dump_node(step.alloc, &node, names), step);
     let mut other = step.beside();
     told(
         "dump",
-        dump(step.alloc, &SyntaxElement::from(node), &names),
+        dump(step.alloc, &SyntaxElement::from(node), names),
         &mut other,
     );
-    Some(step.agree(&other))
+    step.agree(&other);
 }
 
 fn name_kind(step: &mut Step) -> Done {
     let (_, mut names) = names(step)?;
     let kind = SyntaxKind(step.number());
-    let name = step.unquoted()?;
-    let before = names.kind(&name);
-    let added = names.add(step.alloc, kind, &name);
-    let after = names.kind(&name);
+    Some(add_name(&mut names, kind, &step.unquoted(), step))
+}
+
+fn add_name(names: &mut KindNames, kind: SyntaxKind, name: &str, step: &mut Step) {
+    let before = names.kind(name);
+    let added = names.add(step.alloc, kind, name);
+    let after = names.kind(name);
     match added {
-        Ok(()) if after == Some(kind) && names.name(kind) == Some(name.as_str()) => step.put("ok"),
+        Ok(()) if after == Some(kind) && names.name(kind) == Some(name) => step.put("ok"),
         Err(NameError::Memory) if after == before => step.stop(NoAnswer::Refused("KindNames::add")),
         Err(error) if after == before => step.print(&error),
         _ => step.stop(CHANGED),
     }
-    Some(())
 }

@@ -15,18 +15,28 @@ use text_edit::TextEdits;
 /// `nested NESTING DEPTH TREE` or `blank SPACES`.
 pub fn read_tree(alloc: Global, text: &str) -> Result<GreenNode, NoAnswer> {
     let (form, words) = first_word(text);
-    let (first, tree) = first_word(words);
     match form {
-        "long" => fill(alloc, number_of(first)?, &short_tree(alloc, tree)?),
-        "deep" => at_level(alloc, number_of(first)?, short_tree(alloc, tree)?),
-        "wide" => many(alloc, number_of(first)?, short_tree(alloc, tree)?),
-        "nested" => {
-            let (depth, tree) = first_word(tree);
-            nest(alloc, first, number_of(depth)?, short_tree(alloc, tree)?)
-        }
+        "long" | "deep" | "wide" => large_tree(alloc, form, words),
+        "nested" => nested_tree(alloc, words),
         "blank" => blank(alloc, number_of(words)?),
         _ => short_tree(alloc, text),
     }
+}
+
+fn large_tree(alloc: Global, form: &str, words: &str) -> Result<GreenNode, NoAnswer> {
+    let (count, tree) = first_word(words);
+    let (count, tree) = (number_of(count)?, short_tree(alloc, tree)?);
+    match form {
+        "long" => fill(alloc, count, &tree),
+        "deep" => at_level(alloc, count, tree),
+        _ => many(alloc, count, tree),
+    }
+}
+
+fn nested_tree(alloc: Global, words: &str) -> Result<GreenNode, NoAnswer> {
+    let (nesting, words) = first_word(words);
+    let (depth, tree) = first_word(words);
+    nest(alloc, nesting, number_of(depth)?, short_tree(alloc, tree)?)
 }
 
 // An expression, or the name of a row tree or of one that holds P_31 often: P, of 2^32 - 1 bytes, or P_31 n times.
@@ -175,8 +185,11 @@ impl Trees {
     }
 
     pub fn two_nodes(&self, step: &mut Step) -> Option<(SyntaxNode, SyntaxNode)> {
-        let first = self.node(step)?;
-        Some((first, self.node(step)?))
+        self.node(step).zip(self.node(step))
+    }
+
+    pub fn two_elements(&self, step: &mut Step) -> Option<(SyntaxElement, SyntaxElement)> {
+        self.element(step).zip(self.element(step))
     }
 
     /// The node of the next word as one of this type.

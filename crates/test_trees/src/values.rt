@@ -16,18 +16,22 @@ use std::hash::Hash;
 /// `equal ELEMENT ELEMENT`, `form ELEMENT`, `same_shape NODE NODE` or `views NODE`; what is none of these is passed on.
 pub fn answer(trees: &Trees, step: &mut Step) -> Done {
     match step.name {
-        "equal" => {
-            let (left, right) = (trees.element(step)?, trees.element(step)?);
-            Some(step.put(equality(&left, &right)))
-        }
+        "equal" => equal(trees, step),
         "form" => form(trees, step),
-        "same_shape" => {
-            let (left, right) = trees.two_nodes(step)?;
-            Some(step.put(in_each_way(&[same_shape(&left, &right), same_shape(&right, &left)])))
-        }
-        "views" => views(trees, step),
+        "same_shape" => shape(trees, step),
+        "views" => views(&trees.node(step)?, step),
         _ => elements::answer(trees, step),
     }
+}
+
+fn equal(trees: &Trees, step: &mut Step) -> Done {
+    let (left, right) = trees.two_elements(step)?;
+    Some(step.put(equality(&left, &right)))
+}
+
+fn shape(trees: &Trees, step: &mut Step) -> Done {
+    let (left, right) = trees.two_nodes(step)?;
+    Some(step.put(in_each_way(&[same_shape(&left, &right), same_shape(&right, &left)])))
 }
 
 // Whether something holds in each way to ask.
@@ -58,22 +62,29 @@ fn equality(left: &SyntaxElement, right: &SyntaxElement) -> &'static str {
     if own == by_form { own } else { "in one form" }
 }
 
-// By the node or token that is lent, and by the one that is taken, and put back.
+// Which form an element is of, and the hash of that, by the node or token that is lent.
+fn lent(element: &SyntaxElement) -> (&'static str, u64) {
+    match (element.as_node(), element.as_token()) {
+        (Some(it), None) => ("node", hash_of(it)),
+        (None, Some(it)) => ("token", hash_of(it)),
+        _ => ("both or none", 0),
+    }
+}
+
+// The same by the one that is taken, and put back.
+fn taken(element: SyntaxElement, copy: SyntaxElement) -> (&'static str, u64) {
+    match (element.into_node(), copy.into_token()) {
+        (Some(it), None) => ("node", hash_of(&SyntaxElement::from(it))),
+        (None, Some(it)) => ("token", hash_of(&SyntaxElement::from(it))),
+        _ => ("both or none", 0),
+    }
+}
+
 fn form(trees: &Trees, step: &mut Step) -> Done {
     let element = trees.element(step)?;
     let copy = made(element.try_clone(step.alloc), step)?;
-    let whole = hash_of(&element);
-    let lent = match (element.as_node(), element.as_token()) {
-        (Some(it), None) => ("node", hash_of(it)),
-        (None, Some(it)) => ("token", hash_of(it)),
-        _ => ("both or none", whole),
-    };
-    let taken = match (element.into_node(), copy.into_token()) {
-        (Some(it), None) => ("node", hash_of(&SyntaxElement::from(it))),
-        (None, Some(it)) => ("token", hash_of(&SyntaxElement::from(it))),
-        _ => ("both or none", whole),
-    };
-    let is_same = lent.1 == whole && lent == taken;
+    let (lent, whole) = (lent(&element), hash_of(&element));
+    let is_same = lent.1 == whole && lent == taken(element, copy);
     Some(step.put(if is_same {
         lent.0
     } else {
@@ -82,12 +93,11 @@ fn form(trees: &Trees, step: &mut Step) -> Done {
 }
 
 // The kinds of the node's views as BlockExpr, as StmtList, as LetStmt and as Fn
-fn views(trees: &Trees, step: &mut Step) -> Done {
-    let node = trees.node(step)?;
-    push_view::<BlockExpr>(&node, step);
-    push_view::<StmtList>(&node, step);
-    push_attributed_view::<LetStmt>(&node, step);
-    Some(push_attributed_view::<Fn>(&node, step))
+fn views(node: &SyntaxNode, step: &mut Step) -> Done {
+    push_view::<BlockExpr>(node, step);
+    push_view::<StmtList>(node, step);
+    push_attributed_view::<LetStmt>(node, step);
+    Some(push_attributed_view::<Fn>(node, step))
 }
 
 // What a function over any typed node knows from the trait alone.
