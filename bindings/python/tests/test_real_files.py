@@ -110,7 +110,9 @@ class Adapter:
                     wanted = wanted[:start] + b"n" + wanted[end:]
                 edit = script.finish()
                 self.assertEqual(edit.text.encode(), wanted)
-                self.assertEqual([it[:2] for it in edit.edits], places)
+                # A name that is the new one already is no edit of the text.
+                altered = [(start, end) for start, end in places if source[start:end] != b"n"]
+                self.assertEqual([it[:2] for it in edit.edits], altered)
                 self.assertEqual(apply_edits(edit.edits, source), wanted)
                 self.assertEqual({wanted[start:end] for start, end in edit.ranges.values()}, {b"n"} if found else set())
 
