@@ -70,7 +70,8 @@ def _applied(edits: Iterable[Tuple[int, int, AnyStr]], source: AnyStr) -> AnyStr
     for start, end, text in edits:
         parts += [source[copied:start], text]
         copied = end
-    return source[:0].join([*parts, source[copied:]])
+    parts.append(source[copied:])
+    return source[:0].join(parts)
 
 
 @dataclass(frozen=True)
