@@ -9,11 +9,8 @@ use whitespace::{IndentError, IndentLevel, indent};
 /// Takes the step of this name, or passes on what is none of these.
 pub fn answer(trees: &mut Trees, step: &mut Step) -> Done {
     match step.name {
-        "from_element" | "from_node" | "from_token" => level_at(&trees.element(step)?, step),
-        "is_zero" => {
-            let is_zero = read_level(step).is_zero();
-            Some(step.truth(is_zero))
-        }
+        "from_element" | "from_node" | "from_token" => level_at(trees, step),
+        "is_zero" => Some(is_zero(step)),
         "sum" => Some(sum(step)),
         "print" => Some(print(read_level(step), step)),
         "free_indent" => free_indent(trees, step),
@@ -40,8 +37,9 @@ pub fn level(called: Result<IndentLevel, IndentError>, step: &mut Step) -> Done 
 }
 
 // By the call of this name.
-fn level_at(element: &SyntaxElement, step: &mut Step) -> Done {
-    match (step.name, element) {
+fn level_at(trees: &Trees, step: &mut Step) -> Done {
+    let element = trees.element(step)?;
+    match (step.name, &element) {
         ("from_element", it) => level(IndentLevel::from_element(step.alloc, it), step),
         ("from_node", SyntaxElement::Node(it)) => level(
             IndentLevel::from_node(step.alloc, it),
@@ -50,6 +48,11 @@ fn level_at(element: &SyntaxElement, step: &mut Step) -> Done {
         (_, SyntaxElement::Token(it)) => level(IndentLevel::from_token(step.alloc, it), step),
         _ => None,
     }
+}
+
+fn is_zero(step: &mut Step) {
+    let is_zero = read_level(step).is_zero();
+    step.truth(is_zero);
 }
 
 // Whether no indentation, and first one level more, then another one, is the third level.

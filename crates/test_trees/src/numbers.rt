@@ -16,8 +16,8 @@ pub fn answer(trees: &mut Trees, step: &mut Step) -> Done {
         "numbers" => numbers(trees, step),
         "new_root" => root_of_tree(trees, step),
         "clone_subtree" => clone_subtree(trees, step),
-        "green_node" => green_node(trees.greens(step)?, step),
-        "capped" => capped(trees.greens(step)?, step),
+        "green_node" => green_node(trees, step),
+        "capped" => capped(trees, step),
         "splice_children" => splice_children(trees, step),
         "next" => Some(step.gave_or_none(&trees.ids.next())),
         "peek" => Some(peek(&trees.ids, step)),
@@ -42,14 +42,14 @@ fn root_of_tree(trees: &mut Trees, step: &mut Step) -> Done {
 
 // A shared node of these elements, by the call that refuses a long one, or by the other one.
 
-fn green_node(children: Vec<GreenElement>, step: &mut Step) -> Done {
-    let called = GreenNode::new(step.alloc, SyntaxKind::NAME, children);
+fn green_node(trees: &Trees, step: &mut Step) -> Done {
+    let called = GreenNode::new(step.alloc, SyntaxKind::NAME, trees.greens(step)?);
     let node = tried(called, step)?;
     Some(step.gave(&node))
 }
 
-fn capped(children: Vec<GreenElement>, step: &mut Step) -> Done {
-    let called = GreenNode::capped(step.alloc, SyntaxKind::NAME, children);
+fn capped(trees: &Trees, step: &mut Step) -> Done {
+    let called = GreenNode::capped(step.alloc, SyntaxKind::NAME, trees.greens(step)?);
     let node = given("GreenNode::capped", called, step)?;
     Some(step.gave(&node))
 }
@@ -89,8 +89,9 @@ fn clone_subtree(trees: &mut Trees, step: &mut Step) -> Done {
 // The trees of these elements in the place of the children of a tree from the first slot up to the second one.
 fn splice_children(trees: &Trees, step: &mut Step) -> Done {
     let node = trees.tree(step.word());
-    let (start, end) = (step.number(), step.number());
-    splice(&step.read(node)?, start, end, trees.greens(step)?, step)
+    let (node, start, end) = (step.read(node), step.number(), step.number());
+    let (node, new) = node.zip(trees.greens(step))?;
+    splice(&node, start, end, new, step)
 }
 
 fn splice(

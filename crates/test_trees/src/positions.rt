@@ -4,21 +4,23 @@ use crate::step::{Done, Step, given, granted, made};
 use crate::trees::Trees;
 use crate::{mappings, say};
 use cst_core::ast::{BlockExpr, Fn, LetStmt, StmtList};
-use cst_core::{AstNode, SyntaxElement, SyntaxKind, SyntaxNode};
+use cst_core::{AstNode, SyntaxKind};
 use edit_change::{Change, Element, ElementList, Position};
 
 /// Takes the step of this name, or passes on what is none of these.
 pub fn answer(trees: &mut Trees, step: &mut Step) -> Done {
     match step.name {
-        "before" | "after" | "first" | "last" => {
-            let is_there = position_at(trees, step.name, step).is_some();
-            Some(step.put(if is_there { "ok" } else { "none" }))
-        }
+        "before" | "after" | "first" | "last" => Some(is_there(trees, step)),
         "change" => change(trees, step),
-        "syntax_element" => of_value(&trees.element(step)?, step),
-        "typed_element" => typed_element(trees.node(step)?, step),
+        "syntax_element" => element(trees, step),
+        "typed_element" => typed_element(trees, step),
         _ => mappings::answer(trees, step),
     }
+}
+
+fn is_there(trees: &Trees, step: &mut Step) {
+    let position = position_at(trees, step.name, step);
+    step.put(if position.is_some() { "ok" } else { "none" });
 }
 
 /// The position that two words say, if one is there: `first NODE`, `last NODE`, `before REF` or `after REF`.
@@ -29,44 +31,32 @@ pub fn position(trees: &Trees, step: &mut Step) -> Option<Position> {
 // At one side of the node or of the element of the next word.
 fn position_at(trees: &Trees, side: &str, step: &mut Step) -> Option<Position> {
     match side {
-        "before" => before(trees.element(step)?, step),
-        "after" => after(&trees.element(step)?, step),
-        "first" => first(&trees.node(step)?, step),
-        "last" => last(&trees.node(step)?, step),
+        "before" => before(trees, step),
+        "after" => after(trees, step),
+        "first" => first(trees, step),
+        "last" => last(trees, step),
         _ => None,
     }
 }
 
-fn before(element: SyntaxElement, step: &mut Step) -> Option<Position> {
-    given(
-        "Position::before",
-        Position::before(step.alloc, element),
-        step,
-    )?
+fn before(trees: &Trees, step: &mut Step) -> Option<Position> {
+    let called = Position::before(step.alloc, trees.element(step)?);
+    given("Position::before", called, step)?
 }
 
-fn after(element: &SyntaxElement, step: &mut Step) -> Option<Position> {
-    given(
-        "Position::after",
-        Position::after(step.alloc, element),
-        step,
-    )?
+fn after(trees: &Trees, step: &mut Step) -> Option<Position> {
+    let called = Position::after(step.alloc, &trees.element(step)?);
+    given("Position::after", called, step)?
 }
 
-fn first(node: &SyntaxNode, step: &mut Step) -> Option<Position> {
-    given(
-        "Position::first_child_of",
-        Position::first_child_of(step.alloc, node),
-        step,
-    )
+fn first(trees: &Trees, step: &mut Step) -> Option<Position> {
+    let called = Position::first_child_of(step.alloc, &trees.node(step)?);
+    given("Position::first_child_of", called, step)
 }
 
-fn last(node: &SyntaxNode, step: &mut Step) -> Option<Position> {
-    given(
-        "Position::last_child_of",
-        Position::last_child_of(step.alloc, node),
-        step,
-    )
+fn last(trees: &Trees, step: &mut Step) -> Option<Position> {
+    let called = Position::last_child_of(step.alloc, &trees.node(step)?);
+    given("Position::last_child_of", called, step)
 }
 
 // One more change of the plan that is built.
@@ -79,7 +69,7 @@ fn next_change(trees: &Trees, step: &mut Step) -> Option<Change> {
     match step.word() {
         "insert" => insert(trees, step),
         "insert_all" => insert_all(trees, step),
-        "delete" => Some(Change::Replace(trees.element(step)?, None)),
+        "delete" => delete(trees, step),
         "replace" => replace(trees, step),
         "replace_with_many" => replace_with_many(trees, step),
         "replace_all" => replace_all(trees, step),
@@ -95,6 +85,10 @@ fn insert(trees: &Trees, step: &mut Step) -> Option<Change> {
 fn insert_all(trees: &Trees, step: &mut Step) -> Option<Change> {
     let (at, new) = position(trees, step).zip(trees.others(step))?;
     Some(Change::InsertAll(at, ElementList::from(new)))
+}
+
+fn delete(trees: &Trees, step: &mut Step) -> Option<Change> {
+    Some(Change::Replace(trees.element(step)?, None))
 }
 
 fn replace(trees: &Trees, step: &mut Step) -> Option<Change> {
@@ -152,8 +146,13 @@ fn of_value<E: Element>(value: E, step: &mut Step) -> Done {
     Some(step.made_text(element.text(step.alloc)))
 }
 
+fn element(trees: &Trees, step: &mut Step) -> Done {
+    of_value(&trees.element(step)?, step)
+}
+
 // The element by a reference to the typed node of its kind.
-fn typed_element(node: SyntaxNode, step: &mut Step) -> Done {
+fn typed_element(trees: &Trees, step: &mut Step) -> Done {
+    let node = trees.node(step)?;
     match node.kind() {
         SyntaxKind::BLOCK_EXPR => of_value(&BlockExpr::cast(node)?, step),
         SyntaxKind::STMT_LIST => of_value(&StmtList::cast(node)?, step),

@@ -19,7 +19,7 @@ pub fn answer(trees: &Trees, step: &mut Step) -> Done {
         "equal" => equal(trees, step),
         "form" => form(trees, step),
         "same_shape" => shape(trees, step),
-        "views" => views(&trees.node(step)?, step),
+        "views" => views(trees, step),
         _ => elements::answer(trees, step),
     }
 }
@@ -93,11 +93,12 @@ fn form(trees: &Trees, step: &mut Step) -> Done {
 }
 
 // The kinds of the node's views as BlockExpr, as StmtList, as LetStmt and as Fn
-fn views(node: &SyntaxNode, step: &mut Step) -> Done {
-    push_view::<BlockExpr>(node, step);
-    push_view::<StmtList>(node, step);
-    push_attributed_view::<LetStmt>(node, step);
-    Some(push_attributed_view::<Fn>(node, step))
+fn views(trees: &Trees, step: &mut Step) -> Done {
+    let node = trees.node(step)?;
+    push_view::<BlockExpr>(&node, step);
+    push_view::<StmtList>(&node, step);
+    push_attributed_view::<LetStmt>(&node, step);
+    Some(push_attributed_view::<Fn>(&node, step))
 }
 
 // What a function over any typed node knows from the trait alone.
