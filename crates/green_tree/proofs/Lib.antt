@@ -22,3 +22,4 @@ pub mod TouchedChildren
 pub mod Covering
 pub mod FirstNode
 pub mod WaitingNodes
+pub mod WayStarts

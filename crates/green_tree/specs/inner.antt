@@ -17,3 +17,4 @@ pub mod Waiting
 pub mod Splices
 pub mod Summaries
 pub mod Ways
+pub mod Starts
