@@ -1,19 +1,20 @@
 -- The elements that paths lead to, and those that are found for an annotation.
 --     stable-paths, all-lead        paths that are sorted by annotation have for each what they had, and lead to elements as before
 --     rising                        what is sorted by a number has numbers that do not fall
+--     all_of_root                   elements that paths lead to are of that tree
 --     lead-by, as-long              elements that they lead to, one after another, do so for each annotation; there are as many
 --     none-zipped, all-registered   annotated elements as registrations
 --     found-between                 where annotations do not fall, the elements of one are those between two places
 use Rattle.std.specs.Prelude.{◌≡◌, ℕ, zero, suc, ◌-◌, ◌≤◌, Bool, true, false, cond, nat_eq, nat_lt, nat_le, List, [], ◌∷◌, ◌++◌, map, filter, take, drop, length, Vec, Some, All, refl}
 use Rattle.std.specs.Global.{Global}
-use Rattle.std.specs.List.{zip}
+use Rattle.std.specs.List.{zip, AllByRecursion}
 use Rattle.std.specs.List.Sorted.{IsPermutation, IsStableByKey, IsNonDecreasing, IsNonDecreasingBy, IsPartitionPoint, ties}
 use Rattle.std.specs.Ordering.{nat_cmp, is_lt}
 use Rattle.std.proofs.Common.{ap, ap₂, sym, subst, ◌∙◌, arith}
 use Rattle.std.proofs.lemmas.Bool.Decides.{nat_tests}
 use Rattle.std.proofs.lemmas.Bool.{ne_eqb, eq-eqb, ltb-true, ltb-false, leb-true, leb-false}
 use Rattle.std.proofs.lemmas.List.{append-nil, nil_from_length, get_or-map, length-map}
-use Rattle.std.proofs.lemmas.List.Elements.{All-map}
+use Rattle.std.proofs.lemmas.List.Elements.{All-map, All-from_recursion}
 use Rattle.std.proofs.lemmas.List.Sorted.{length_permutation}
 use Rattle.std.proofs.lemmas.Map.Views.{All-map-IsPermutation}
 use mathlib.Core.List.{map-map}
@@ -23,9 +24,10 @@ use Rattle.cst_core.specs.Element.{Element}
 use Rattle.cst_core.specs.SyntaxElement.{syntax_at}
 use Rattle.cst_core.specs.declared.element.SyntaxElement.{SyntaxElement}
 use Rattle.edit_change.specs.Results.{paths_with}
-use Rattle.edit_plan.specs.Plan.{found_for}
+use Rattle.edit_plan.specs.Plan.{IsOf, found_for}
 use Rattle.edit_plan.specs.Engine.{annotated_path}
 use Rattle.edit_plan.specs.inner.Annotating.{LeadByAnnotation}
+use Rattle.edit_plan.proofs.ElementTexts.{element-there}
 
 -- ---- sorted by annotation
 abbrev is_tied : ℕ → ℕ → Bool
@@ -53,6 +55,18 @@ rising f (x ∷ xs) rise i j d l m =
     let other = get_or-map f (x ∷ xs) j x d (omega (arith, m, long)) in
     let less = rise i j x l (omega (arith, m, long)) in
     omega (arith, one, other, less)
+
+-- ---- they are of the tree in which they were found
+of_root : (root : Element) (es : List SyntaxElement) (ps : List Path) → map Some es ≡ map (syntax_at root) ps → AllByRecursion (IsOf root) es
+of_root root [] ps are = tt
+of_root root (e ∷ es) [] are = absurd (cc)
+of_root root (e ∷ es) (p ∷ ps) are =
+    let here : syntax_at root p ≡ Some e = cc in
+    let rest : map (λ x. Some x) es ≡ map (syntax_at root) ps = cc in
+    (ap (λ x. x.root) (element-there root p e here).0, of_root root es ps rest)
+
+pub all_of_root : (root : Element) (es : List SyntaxElement) (ps : List Path) → map Some es ≡ map (syntax_at root) ps → All (IsOf root) es
+all_of_root root es ps are = All-from_recursion (IsOf root) es (of_root root es ps are)
 
 -- ---- those of one annotation
 pub lead-by : (root : Element) (ns : List (ℕ × Vec ℕ Global)) (es : List SyntaxElement) → map Some es ≡ map (syntax_at root) (map (λ n. n.1.items) ns) → LeadByAnnotation root (map annotated_path ns) (zip (map (λ n. n.0) ns) es)

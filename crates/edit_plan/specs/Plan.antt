@@ -8,6 +8,7 @@
 --                                   `MissingMapping` with the first change without a place.
 --     Edit, new_edit                An old root, a new root, the changed elements, and the annotated ones with their annotations; the edit
 --                                   of these, where code has a list.
+--     IsOf                          An element is of the tree with this root.
 --     found_for                     The elements that stand with an annotation, in order.
 --     stand_in                      The first node of the new tree that has the kind and the start of an old one, if there is one.
 --     registered_elements           The registrations, with `Element` in place of `SyntaxElement`.
@@ -79,6 +80,9 @@ pub record Edit : Type 0 where
 
 abbrev pub new_edit : Element → Element → Vec SyntaxElement Global → List (ℕ × SyntaxElement) → Edit
 new_edit old_root new_root changed annotated = record { old_root = old_root; new_root = new_root; changed = changed.items; annotated = annotated }
+
+abbrev pub IsOf : Element → SyntaxElement → Type 0
+IsOf root e = (element_of e).root ≡ root.root
 
 abbrev pub found_for : List (ℕ × SyntaxElement) → ℕ → List SyntaxElement
 found_for annotated a = map (λ e. e.1) (filter (λ e. nat_eq e.0 a) annotated)

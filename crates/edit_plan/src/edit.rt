@@ -1,7 +1,7 @@
 //! `SyntaxEdit`: the old and the new root, the changed elements and the annotated ones.
 
-ghost use Rattle.std.specs.Prelude.{◌≡◌, IfOk};
-ghost use Rattle.edit_plan.specs.Plan.{found_for, stand_in};
+ghost use Rattle.std.specs.Prelude.{◌≡◌, All, IfOk};
+ghost use Rattle.edit_plan.specs.Plan.{IsOf, found_for, stand_in};
 
 use crate::annotation::SyntaxAnnotation;
 use crate::found::AnnotatedElements;
@@ -29,9 +29,9 @@ impl Model for SyntaxEdit {
 
     ghost view = { λ a. new_edit a.old_root a.new_root a.changed a.annotated };
 
-    ghost use Rattle.edit_plan.specs.inner.PlanRun.{IsNewRoot};
+    ghost use Rattle.edit_plan.specs.inner.PlanRun.{IsEditKept};
 
-    ghost invariant = { λ a. IsNewRoot a.new_root };
+    ghost invariant = { λ a. IsEditKept a.new_root a.changed a.annotated };
 }
 
 impl SyntaxEdit {
@@ -51,7 +51,8 @@ impl SyntaxEdit {
 
     /// The elements of the new tree that changes without an owner brought and whose parent none did, in document order.
     pub fn changed_elements(&self) -> &[SyntaxElement]
-        ensures { result.now ≡ self.now.changed }
+        ensures changed { result.now ≡ self.now.changed }
+        ensures of_root { All (IsOf self.now.new_root) result.now }
     {
         self.changed.as_slice()
     }
@@ -59,7 +60,8 @@ impl SyntaxEdit {
     /// The elements of the new tree that were copied from what is registered with an annotation, by registration and then in
     /// document order; an element that stayed is a copy of itself. None of an annotation that nothing is registered with.
     pub fn find_annotation(&self, annotation: SyntaxAnnotation) -> &[SyntaxElement]
-        ensures { result.now ≡ found_for self.now.annotated annotation }
+        ensures found { result.now ≡ found_for self.now.annotated annotation }
+        ensures of_root { All (IsOf self.now.new_root) result.now }
     {
         self.annotated.found_for(annotation)
     }

@@ -1,16 +1,16 @@
 -- What a plan keeps beside its changes, and what carrying it out comes to before there is a root.
 --     unregistered                  the plan of changes without registrations
 --     IsPlanned, IsPlanKept         the document order of the changes, what becomes of each, and the places of owners; the same of what code has
---     IsNewRoot                     a root whose text is within the limit, as that of every edit is
+--     IsEditKept                    a root whose text is within the limit, and elements of its tree, as every edit has them
 --     IsOfRoot                      a refusal that may come once there is a tree whose text is within the limit
-use Rattle.std.specs.Prelude.{◌≡◌, ◌<◌, ℕ, List, [], map, length, Option, Vec}
+use Rattle.std.specs.Prelude.{◌≡◌, ◌<◌, ℕ, List, [], map, length, Option, All, Vec}
 use Rattle.std.specs.Global.{Global}
 use Rattle.cst_core.specs.Tree.{text_length}
 use Rattle.cst_core.specs.Green.{length_limit}
 use Rattle.cst_core.specs.Element.{Element}
 use Rattle.cst_core.specs.declared.element.SyntaxElement.{SyntaxElement}
 use Rattle.edit_map.specs.Mapping.{Mapping}
-use Rattle.edit_plan.specs.Plan.{Plan, IsPlan, new_plan}
+use Rattle.edit_plan.specs.Plan.{Plan, IsPlan, IsOf, found_for, new_plan}
 use Rattle.edit_change.specs.inner.Fate.{fate}
 use Rattle.edit_change.specs.inner.DocumentOrder.{IsDocumentOrder}
 use Rattle.edit_change.specs.inner.OwnerPlaces.{places_in}
@@ -34,9 +34,11 @@ pub record IsPlanned (p : Plan) (order : List ℕ) (fates : List Fate) (places :
 abbrev pub IsPlanKept : Element → Vec Change Global → Vec (SyntaxElement × ℕ) Global → Mapping → Vec ℕ Global → Vec Fate Global → Vec (Option (Vec ℕ Global)) Global → Type 0
 IsPlanKept root changes rs m order fates places = IsPlanned (new_plan root changes rs m) order.items fates.items places.items
 
-pub record IsNewRoot (e : Element) : Type 0 where
-  pub is_root : e.path ≡ []
-  pub fits : text_length e.root < length_limit
+pub record IsEditKept (root : Element) (changed : Vec SyntaxElement Global) (annotated : List (ℕ × SyntaxElement)) : Type 0 where
+  pub is_root : root.path ≡ []
+  pub fits : text_length root.root < length_limit
+  pub changed_in : All (IsOf root) changed.items
+  pub annotated_in : (a : ℕ) → All (IsOf root) (found_for annotated a)
 
 abbrev pub IsOfRoot : EditError → Type 0
 IsOfRoot NoTreeNumber = Unit {0}

@@ -2,11 +2,13 @@ use Rattle.std.proofs.Common.{◌≡◌, ◌<◌, [], map, Err, sym, ◌∙◌, 
 use Rattle.cst_core.specs.Green.{branch_tree, length_limit}
 use Rattle.cst_core.specs.Tree.{text_length}
 use Rattle.edit_change.specs.Topmost.{paths_of}
-use Rattle.edit_plan.specs.Plan.{RunRefuses}
+use Rattle.edit_change.specs.Results.{paths_with}
+use Rattle.edit_plan.specs.Plan.{RunRefuses, found_for}
 use Rattle.edit_plan.specs.inner.PlanRun.{IsOfRoot}
 use Rattle.edit_plan.specs.Engine.{annotated_path}
 use Rattle.edit_plan.specs.EditRefusal.{of_tree}
 use Rattle.edit_plan.proofs.PromisesOfRuns.{makes, refuses, of-root, err-gives}
+use Rattle.edit_plan.proofs.FoundElements.{all_of_root}
 use Rattle.edit_plan.proofs.PathsOfResults.{changed-there, annotated-there}
 use Rattle.edit_plan.proofs.plan.EditPlan.edit_of.Goals as goal
 
@@ -37,3 +39,16 @@ returns-clause-ok c =
 
 pub returns-clause-short : goal.returns-clause-short
 returns-clause-short c = subst (λ e. text_length e.root < length_limit) c.new_root-2.view_is c.new_root-2.invariant.fits
+
+pub invariant_of-result : goal.invariant_of-result
+invariant_of-result c =
+    let rewritten = c.args.rewritten in
+    let root = c.in_ok-new_root.new_root in
+    let annotated = map annotated_path rewritten.annotated.items in
+    let there = changed-there c.args.self.now (branch_tree rewritten.green) (paths_of rewritten.changed.items) annotated c.requires.rewritten root (ap (λ x. x.root) c.in_ok-new_root.ensures.ok) in
+    record {
+      is_root = ap (λ x. x.path) c.in_ok-new_root.ensures.ok;
+      fits = subst (λ e. text_length e.root < length_limit) c.new_root-2.view_is c.new_root-2.invariant.fits;
+      changed_in = all_of_root root c.in_ok-changed.changed.items (paths_of rewritten.changed.items) (c.in_ok-changed.ensures there);
+      annotated_in = λ a. all_of_root root (found_for c.in_ok-annotated.annotated a) (paths_with a annotated) (c.in_ok-annotated.ensures a);
+    }
