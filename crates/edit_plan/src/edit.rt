@@ -1,6 +1,6 @@
 //! `SyntaxEdit`: the old and the new root, the changed elements and the annotated ones.
 
-ghost use Rattle.std.specs.Prelude.{◌≡◌, All, IfOk};
+ghost use Rattle.std.specs.Prelude.{◌≡◌, [], All, IfOk};
 ghost use Rattle.edit_plan.specs.Plan.{IsOf, found_for, stand_in};
 
 use crate::annotation::SyntaxAnnotation;
@@ -44,7 +44,8 @@ impl SyntaxEdit {
 
     /// The root of the new tree, which has a number of its own.
     pub fn new_root(&self) -> &SyntaxNode
-        ensures { result.now ≡ self.now.new_root }
+        ensures root { result.now ≡ self.now.new_root }
+        ensures top { result.now.path ≡ [] }
     {
         &self.new_root
     }

@@ -1,7 +1,9 @@
 //! What is printed of an edit that was made.
-ghost use Rattle.std.specs.Prelude.{◌≡◌, ◌++◌, [], map, flat_map, IfOk, OnOk, string_bytes};
-ghost use Rattle.cst_core.specs.Green.{branch_tree};
-ghost use Rattle.cst_core.specs.Tree.{text};
+ghost use Rattle.std.specs.Prelude.{◌≡◌, ◌<◌, ◌++◌, [], map, flat_map, All, IfOk, OnOk, string_bytes};
+ghost use Rattle.green_tree.specs.inner.Starts.{AreStarts};
+ghost use Rattle.cst_core.specs.Green.{branch_tree, length_limit};
+ghost use Rattle.cst_core.specs.Tree.{text, text_length};
+ghost use Rattle.cst_core.specs.SyntaxElement.{element_of};
 ghost use Rattle.cst_core.specs.Element.{subtree};
 ghost use Rattle.syntax_editor.specs.PlanText.{path_text};
 ghost use Rattle.syntax_editor.specs.TextPiece.{as_piece, pieces};
@@ -10,6 +12,7 @@ ghost use Rattle.syned_run.specs.Answer.{edit_line, edit_text, note_text, place_
 ghost use Rattle.syned_run.specs.inner.Printing.{note_shown};
 
 use cst_core::{GreenNode, SyntaxElement};
+use green_tree::Starts;
 use std::alloc::{AllocError, Global};
 use syned_script::{Shown, Word};
 use syntax_editor::{SyntaxEdit, TextEdit};
@@ -26,7 +29,7 @@ pub(crate) fn print_edit(
         IfOk result (λ s. string_bytes s ≡ edit_text new (places_of ranges edit.now.changed) notes) }
 {
     let mut out = print_changed(alloc, edit, ranges)?;
-    push_notes(&mut out, edit, words, ranges)?;
+    push_notes(alloc, &mut out, edit, words, ranges)?;
     Ok(out)
 }
 
@@ -39,12 +42,14 @@ fn print_changed(alloc: Global, edit: &SyntaxEdit, ranges: bool) -> Result<Strin
     let mut out = String::from_str(alloc, "text \"")?;
     push_escaped(&mut out, &text)?;
     out.push_str("\"\nchanged")?;
-    push_places(&mut out, edit.changed_elements(), ranges)?;
+    let root = edit.new_root().as_green();
+    push_places(alloc, &mut out, root, edit.changed_elements(), ranges)?;
     out.push('\n')?;
     Ok(out)
 }
 
 fn push_notes(
+    alloc: Global,
     out: &mut String,
     edit: &SyntaxEdit,
     words: &[Word],
@@ -54,12 +59,13 @@ fn push_notes(
         OnOk result (string_bytes out.new ≡ string_bytes out.old ++ flat_map note_text notes) }
 {
     for word in words {
-        push_note(out, edit, word, ranges)?;
+        push_note(alloc, out, edit, word, ranges)?;
     }
     Ok(())
 }
 
 fn push_note(
+    alloc: Global,
     out: &mut String,
     edit: &SyntaxEdit,
     word: &Word,
@@ -70,30 +76,54 @@ fn push_note(
 {
     out.push_str("note ")?;
     out.push_str(&word.text)?;
-    push_places(out, edit.find_annotation(word.annotation), ranges)?;
+    let root = edit.new_root().as_green();
+    let found = edit.find_annotation(word.annotation);
+    push_places(alloc, out, root, found, ranges)?;
     out.push('\n')
 }
 
-// Each after one space.
-fn push_places(out: &mut String, elements: &[SyntaxElement], ranges: bool) -> Result<(), AllocError>
+// Each after one space. They are of the tree with this root.
+fn push_places(
+    alloc: Global,
+    out: &mut String,
+    root: &GreenNode,
+    elements: &[SyntaxElement],
+    ranges: bool,
+) -> Result<(), AllocError>
+    requires fits { text_length (branch_tree root.now) < length_limit }
+    requires of_root { All (λ e. (element_of e).root ≡ branch_tree root.now) elements.now }
     ensures { OnOk result
         (string_bytes out.new ≡ string_bytes out.old ++ places_text (places_of ranges elements.now)) }
 {
+    let mut starts = Starts::new(alloc);
     for element in elements {
         out.push(' ')?;
-        push_place(out, element, ranges)?;
+        push_place(out, &mut starts, root, element, ranges)?;
     }
     Ok(())
 }
 
-fn push_place(out: &mut String, element: &SyntaxElement, ranges: bool) -> Result<(), AllocError>
-    ensures { OnOk result (string_bytes out.new ≡ string_bytes out.old ++ place_of ranges element.now) }
+fn push_place(
+    out: &mut String,
+    starts: &mut Starts,
+    root: &GreenNode,
+    element: &SyntaxElement,
+    ranges: bool,
+) -> Result<(), AllocError>
+    requires fits { text_length (branch_tree root.now) < length_limit }
+    requires of_root { (element_of element.now).root ≡ branch_tree root.now }
+    requires starts { AreStarts (branch_tree root.now) [] starts.old.steps.items }
+    ensures place { OnOk result (string_bytes out.new ≡ string_bytes out.old ++ place_of ranges element.now) }
+    ensures starts { AreStarts (branch_tree root.now) [] starts.new.steps.items }
 {
     push_path(out, element.slots())?;
     if !ranges {
         return Ok(());
     }
-    let (start, end) = (element.text_start(), element.text_end());
+    // For the proof: the element's path leads to it.
+    let _ = element.as_green();
+    let start = starts.start_of(root, element.slots())?;
+    let end = start + element.text_len();
     write!(out, "@{start}..{end}")
 }
 

@@ -12,4 +12,4 @@ returns-else-index-eq0 c =
     let s = c.index-steps-index.result in
     let within : i - 1 < length steps = omega (arith, c.requires, c.if-index-eq0.false) in
     let next : suc (i - 1) ≡ i = omega (arith, c.if-index-eq0.false) in
-    c.new_root.ensures ∙ ap (λ (x : Step). x.edit.new_root) (sym c.index-steps-index.is) ∙ sym (before-at c.args.root.now steps (i - 1) s (item-at steps (i - 1) s within c.index-steps-index.is)) ∙ ap (λ n. root_after c.args.root.now (take n steps)) next
+    c.new_root.ensures.root ∙ ap (λ (x : Step). x.edit.new_root) (sym c.index-steps-index.is) ∙ sym (before-at c.args.root.now steps (i - 1) s (item-at steps (i - 1) s within c.index-steps-index.is)) ∙ ap (λ n. root_after c.args.root.now (take n steps)) next

@@ -17,5 +17,5 @@ returns c =
     let edit = done.edit in
     let ranges = c.in-Some.shown.details.ranges in
     let notes = ap (edit_text (text (subtree edit.new_root)) (places_of ranges edit.changed)) (shown_notes ranges edit done.words c.in_order-words.result.now c.in_order-words.ensures) in
-    let tree = c.as_green.ensures.tree ∙ ap subtree c.new_root.ensures in
+    let tree = c.as_green.ensures.tree ∙ ap subtree c.new_root.ensures.root in
     c.in_ok-push_shown.ensures ∙ ap₂ (λ front t. front ++ shown_text (showing_of c.in-Some.shown) t) (c.in_ok-text.ensures ∙ notes) tree ∙ sym (ap (λ o. printed (outcome_of edit done.words o)) c.in-Some.is)

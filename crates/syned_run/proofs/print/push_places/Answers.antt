@@ -7,5 +7,5 @@ use Rattle.syned_run.proofs.print.push_places.Goals as goal
 pub returns : goal.returns
 returns c =
     let place = place_of c.args.ranges in
-    let whole = all_there (λ e. spaced (place e)) c.args.elements.now c.loop-element.element-index _ _ (omega (arith, c.loop-element-test.false)) c.loop-element.invariant in
+    let whole = all_there (λ e. spaced (place e)) c.args.elements.now c.loop-element.element-index _ _ (omega (arith, c.loop-element-test.false)) c.loop-element.invariant.text in
     whole ∙ ap (λ l. string_bytes c.args.out.now ++ l) (sym (flat_map-map spaced place c.args.elements.now))
