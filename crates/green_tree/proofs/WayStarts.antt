@@ -1,5 +1,5 @@
 -- Where children and siblings start, and ways whose starts are kept.
-use Rattle.std.proofs.Common.{◌≡◌, ◌≤◌, ◌<◌, ◌+◌, ◌-◌, ℕ, zero, suc, List, [], ◌∷◌, ◌++◌, map, length, take, drop, get_or, None, Some, refl, ap, sym, ◌∙◌, arith, length-append, append_assoc, add-one}
+use Rattle.std.proofs.Common.{◌≡◌, ◌≤◌, ◌<◌, ◌+◌, ◌-◌, ℕ, zero, suc, List, [], ◌∷◌, ◌++◌, length, take, drop, get_or, None, Some, refl, ap, sym, ◌∙◌, arith, length-append, append_assoc, add-one}
 use Rattle.std.specs.Prelude.{slice_get, option_and_then, option_map, IsSome}
 use Rattle.std.specs.Option.{option_map_or}
 use Rattle.std.proofs.lemmas.Option.{slice_get_read}
@@ -32,6 +32,10 @@ text_in_parts es i j h =
 -- where a child starts
 pub start-child : (t : SyntaxTree) (p : Path) (b : Branch) (es : List GreenElement) (i : ℕ) → at t p ≡ Some (branch_tree b) → element_trees es ≡ b.children → start t (p ++ i ∷ []) ≡ start t p + length (texts (element_trees (take i es)))
 start-child t p b es i there same = rw (start-append t p (i ∷ []) (branch_tree b) there, start-slot b es i same)
+
+-- where a child starts in its node, summed up from the first one
+pub start-from_first : (b : Branch) (es : List GreenElement) (i : ℕ) → element_trees es ≡ b.children → start (branch_tree b) (i ∷ []) ≡ length (texts (element_trees (take (i - 0) es)))
+start-from_first b es i same = start-slot b es i same ∙ ap (λ k. length (texts (element_trees (take k es)))) (omega arith)
 
 start-first : (t : SyntaxTree) (p : Path) (b : Branch) → at t p ≡ Some (branch_tree b) → start t (p ++ 0 ∷ []) ≡ start t p
 start-first t p b there =

@@ -21,6 +21,6 @@ pub use green::{
 pub use kind::{KIND_NAMES, SyntaxKind};
 pub use offsets::{covering_path, tokens_at};
 pub use shape::have_same_shape;
-pub use start::{Starts, start_of};
+pub use start::{TextStarts, start_of};
 pub use text::text_of;
 pub use tokens::{FoundToken, first_token, last_token, token_after, token_before};

@@ -10,14 +10,15 @@ ghost use Rattle.green_tree.specs.inner.Starts.{AreStarts, IsStartBelow, LeadsOn
 use crate::green::{GreenElement, GreenNode};
 use std::alloc::{AllocError, Global};
 
-// Where the child in a slot of the node starts, in bytes from the node's start. There may be a slot more than children.
-fn slot_start(node: &GreenNode, slot: usize) -> u64
-    requires within { slot ≤ length node.now.children }
-    requires fits { text_length (branch_tree node.now) < length_limit }
-    ensures { result ≡ start (branch_tree node.now) (slot ∷ []) }
+// Where the child in a slot starts, if the one in an earlier slot starts there.
+fn start_from(children: &[GreenElement], first: usize, start: u64, slot: usize) -> u64
+    requires order { first ≤ slot }
+    requires within { slot ≤ length children.now }
+    requires fits { start + length (texts (element_trees (take (slot - first) (drop first children.now)))) < length_limit }
+    ensures { result ≡ start + length (texts (element_trees (take (slot - first) (drop first children.now)))) }
 {
-    let mut total = 0;
-    for child in &node.children()[..slot] {
+    let mut total = start;
+    for child in &children[first..slot] {
         total += child.length();
     }
     total
@@ -33,7 +34,7 @@ pub fn start_of(root: &GreenNode, path: &[usize]) -> u64
     let mut node = root;
     for slot in path {
         let children = node.children();
-        total += slot_start(node, *slot);
+        total = start_from(children, 0, total, *slot);
         match &children[*slot] {
             GreenElement::Node(below) => node = below,
             GreenElement::Token(_) => return total,
@@ -42,24 +43,10 @@ pub fn start_of(root: &GreenNode, path: &[usize]) -> u64
     total
 }
 
-// Where the child in a slot starts, if one before it starts there.
-fn start_from(children: &[GreenElement], first: usize, start: u64, slot: usize) -> u64
-    requires order { first ≤ slot }
-    requires within { slot ≤ length children.now }
-    requires fits { start + length (texts (element_trees (take (slot - first) (drop first children.now)))) < length_limit }
-    ensures { result ≡ start + length (texts (element_trees (take (slot - first) (drop first children.now)))) }
-{
-    let mut total = start;
-    for child in &children[first..slot] {
-        total += child.length();
-    }
-    total
-}
-
 /// Where the elements start that the last way down led through, so that the next way is summed up from where the two part.
 /// In document order all starts take as long as the ways, and the children of the nodes on them once.
 #[derive(Drop)]
-pub struct Starts {
+pub struct TextStarts {
     steps: Vec<Step>,
 }
 
@@ -70,11 +57,11 @@ struct Step {
     start: u64,
 }
 
-impl Starts {
-    pub fn new(alloc: Global) -> Starts
+impl TextStarts {
+    pub fn new(alloc: Global) -> TextStarts
         ensures { (t : SyntaxTree) → AreStarts t [] result.steps.items }
     {
-        Starts {
+        TextStarts {
             steps: Vec::new(alloc),
         }
     }

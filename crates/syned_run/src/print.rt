@@ -12,7 +12,7 @@ ghost use Rattle.syned_run.specs.Answer.{edit_line, edit_text, note_text, place_
 ghost use Rattle.syned_run.specs.inner.Printing.{note_shown};
 
 use cst_core::{GreenNode, SyntaxElement};
-use green_tree::Starts;
+use green_tree::TextStarts;
 use std::alloc::{AllocError, Global};
 use syned_script::{Shown, Word};
 use syntax_editor::{SyntaxEdit, TextEdit};
@@ -95,7 +95,7 @@ fn push_places(
     ensures { OnOk result
         (string_bytes out.new ≡ string_bytes out.old ++ places_text (places_of ranges elements.now)) }
 {
-    let mut starts = Starts::new(alloc);
+    let mut starts = TextStarts::new(alloc);
     for element in elements {
         out.push(' ')?;
         push_place(out, &mut starts, root, element, ranges)?;
@@ -105,7 +105,7 @@ fn push_places(
 
 fn push_place(
     out: &mut String,
-    starts: &mut Starts,
+    starts: &mut TextStarts,
     root: &GreenNode,
     element: &SyntaxElement,
     ranges: bool,

@@ -1,19 +1,19 @@
 use Rattle.std.proofs.Common.{rules, arith, drop, get_or, [], ◌∷◌, ◌+◌}
-use Rattle.std.proofs.lemmas.List.{length-map}
 use Rattle.green_tree.specs.Green.{branch_tree}
 use Rattle.green_tree.proofs.Starts.{start-le, start_step, start_room, start-token, start-end}
 use Rattle.green_tree.proofs.Slots.{step_down}
+use Rattle.green_tree.proofs.WayStarts.{start-from_first}
 use Rattle.green_tree.proofs.start.start_of.Goals as goal
 
-pub slot_start-total-requires-clause-within : goal.slot_start-total-requires-clause-within
-slot_start-total-requires-clause-within c =
+pub start_from-total-requires-clause-within : goal.start_from-total-requires-clause-within
+start_from-total-requires-clause-within c =
     let inside = (step_down c.loop-slot.node.now c.children-children.result.now c.args.path.now c.loop-slot.slot-index c.children-children.ensures c.loop-slot-test.true c.loop-slot.invariant.there).inside in
-    rw (← c.children-children.ensures, length-map) (omega arith)
+    omega (arith, inside)
 
-pub overflow_add-total : goal.overflow_add-total
-overflow_add-total c =
-    let within = start-le (branch_tree c.loop-slot.node.now) (get_or c.args.path.now c.loop-slot.slot-index 0 ∷ []) in
-    search (arith, rules)
+pub start_from-total-requires-clause-fits : goal.start_from-total-requires-clause-fits
+start_from-total-requires-clause-fits c =
+    let begins = start-from_first c.loop-slot.node.now c.children-children.result.now (get_or c.args.path.now c.loop-slot.slot-index 0) c.children-children.ensures in
+    omega (arith, begins, start-le (branch_tree c.loop-slot.node.now) (get_or c.args.path.now c.loop-slot.slot-index 0 ∷ []))
 
 pub offset_bounds-children-slot : goal.offset_bounds-children-slot
 offset_bounds-children-slot c =
@@ -29,7 +29,8 @@ returns-in-Token c =
     let step = start_step c.loop-slot.node.now c.children-children.result.now c.args.path.now c.loop-slot.slot-index c.index-children-slot.result c.children-children.ensures c.loop-slot-test.true way.inside c.index-children-slot.is in
     let there = rw c.in-Token.is at (way.below c.index-children-slot.result c.index-children-slot.is) in
     let step_token = rw c.in-Token.is at step in
-    omega (arith, start-token c.in-Token.field-0.kind c.in-Token.field-0.text (drop (c.loop-slot.slot-index + 1) c.args.path.now) there)
+    let begins = start-from_first c.loop-slot.node.now c.children-children.result.now (get_or c.args.path.now c.loop-slot.slot-index 0) c.children-children.ensures in
+    omega (arith, begins, start-token c.in-Token.field-0.kind c.in-Token.field-0.text (drop (c.loop-slot.slot-index + 1) c.args.path.now) there)
 
 pub loop-slot-preserved : goal.loop-slot-preserved
 loop-slot-preserved c =
@@ -38,10 +39,11 @@ loop-slot-preserved c =
     let room = start_room c.loop-slot.node.now c.children-children.result.now (get_or c.args.path.now c.loop-slot.slot-index 0) c.index-children-slot.result c.children-children.ensures way.inside c.index-children-slot.is in
     let step_node = rw c.in-Node.is at step in
     let room_node = rw c.in-Node.is at room in
+    let begins = start-from_first c.loop-slot.node.now c.children-children.result.now (get_or c.args.path.now c.loop-slot.slot-index 0) c.children-children.ensures in
     record {
       there = rw c.in-Node.is at (way.below c.index-children-slot.result c.index-children-slot.is);
-      rest = omega arith;
-      fits = omega arith;
+      rest = omega (arith, begins);
+      fits = omega (arith, begins);
     }
 
 pub returns : goal.returns

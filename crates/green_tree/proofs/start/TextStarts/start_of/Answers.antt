@@ -1,10 +1,9 @@
 use Rattle.std.proofs.Common.{rules, arith, ◌+◌, [], take, refl, sym, ◌∙◌}
-use Rattle.green_tree.specs.Tree.{at}
 use Rattle.green_tree.specs.Green.{branch_tree}
 use Rattle.green_tree.proofs.Starts.{start-le, start-top}
 use Rattle.green_tree.proofs.Slots.{step_down}
 use Rattle.green_tree.proofs.WayStarts.{start-slot_of, starts_before, starts_take, at_next, start_in_token, way_next, start_next}
-use Rattle.green_tree.proofs.start.Starts.start_of.Goals as goal
+use Rattle.green_tree.proofs.start.TextStarts.start_of.Goals as goal
 
 pub loop-depth-init : goal.loop-depth-init
 loop-depth-init c = record {

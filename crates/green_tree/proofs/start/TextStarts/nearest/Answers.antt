@@ -1,5 +1,5 @@
 use Rattle.green_tree.proofs.WayStarts.{below_as_before, below_from_first}
-use Rattle.green_tree.proofs.start.Starts.nearest.Goals as goal
+use Rattle.green_tree.proofs.start.TextStarts.nearest.Goals as goal
 
 pub returns-in-Some-clause-start : goal.returns-in-Some-clause-start
 returns-in-Some-clause-start c = below_as_before c.args.self.now.steps.items c.args.depth c.args.here c.in-Some.last.now (rw c.deref.ensures.value at c.in-Some.ensures.lookup.3.0) (rw c.deref.ensures.value at c.in-Some.ensures.lookup.1)

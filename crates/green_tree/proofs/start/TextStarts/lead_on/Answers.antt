@@ -1,7 +1,7 @@
 use Rattle.std.proofs.Common.{◌≡◌, ◌++◌, ◌∷◌, [], take, ap, ◌∙◌}
 use Rattle.green_tree.proofs.WayStarts.{leads_as_before, leads_anew}
-use Rattle.green_tree.proofs.start.Starts.lead_on.Goals as goal
-use Rattle.green_tree.proofs.start.Starts.lead_on.Goals.{in-Some+else-last-slot, in_default}
+use Rattle.green_tree.proofs.start.TextStarts.lead_on.Goals as goal
+use Rattle.green_tree.proofs.start.TextStarts.lead_on.Goals.{in-Some+else-last-slot, in_default}
 
 pub returns-then-last-slot-clause-ok : goal.returns-then-last-slot-clause-ok
 returns-then-last-slot-clause-ok c =

@@ -4,7 +4,7 @@ use Rattle.green_tree.specs.Tree.{at}
 use Rattle.green_tree.specs.Order.{start}
 use Rattle.green_tree.specs.Green.{branch_tree}
 use Rattle.green_tree.specs.inner.Starts.{AreStarts, slots_on}
-use Rattle.green_tree.proofs.start.Starts.start_of.Given as goal
+use Rattle.green_tree.proofs.start.TextStarts.start_of.Given as goal
 
 abbrev pub invariant-loop-depth : goal.invariant-loop-depth
 invariant-loop-depth l = record {
