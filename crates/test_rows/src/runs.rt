@@ -12,14 +12,14 @@ use test_trees::{CHANGED, Done, NoAnswer, Show, Step, say};
 /// Takes the step of this name, or passes on what is none of these.
 pub fn answer(s: &mut Session, step: &mut Step) -> Done {
     match step.name {
-        "stepped" => stepped(s, step),
+        "stepped" => take_steps(s, step),
         "finish_run" => finish_run(s, step),
         "finish_counting" => finish_counting(s, step),
         _ => indents::answer(s, step),
     }
 }
 
-fn stepped(s: &Session, step: &mut Step) -> Done {
+fn take_steps(s: &Session, step: &mut Step) -> Done {
     step.put("ok");
     let mut stepped = Stepped::new(s.plans.last()?, step)?;
     stepped.take_all(step)
