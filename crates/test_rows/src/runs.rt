@@ -1,5 +1,7 @@
 //! Plans that are carried out one change at a time.
-ghost use Rattle.std.specs.Prelude.{◌≡◌, ◌<◌, length};
+ghost use Rattle.std.specs.Prelude.{◌≡◌, ◌<◌, true, length, IfSome};
+ghost use Rattle.edit_plan.specs.Schedule.{is_complete};
+ghost use Rattle.edit_plan.specs.Run.{is_done};
 
 use crate::editors::keep_edit;
 use crate::indents;
@@ -47,7 +49,9 @@ fn finish_counting(s: &mut Session, step: &mut Step) -> Done {
 }
 
 // A complete run by these steps, without what they answer; or that it is not complete.
-fn run_by<'a>(plan: &'a EditPlan, step: &mut Step) -> Option<EditRun<'a>> {
+fn run_by<'a>(plan: &'a EditPlan, step: &mut Step) -> Option<EditRun<'a>>
+    ensures { IfSome result (λ run. is_complete run.plan.changes (is_done run) ≡ true) }
+{
     let mut stepped = Stepped::new(plan, step)?;
     let taken = stepped.take_all(step);
     step.text.clear();
