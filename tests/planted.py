@@ -4,8 +4,8 @@ It tries the bugs of these crates, or of all, where a verdict could have changed
 all refused. `--all` tries them whether anything changed or not. `--gate` tries the stale crates and one more, which the commit's hash chooses,
 and records nothing: so a record that was written by hand is found out. `--stale` prints the stale crates.
 
-A check says of each function whether it is proved, so many bugs are tried in one (`rattle check --only F ..`), over what a check of the
-unchanged crate proved, which begins with what `rt check` kept. Each is made in a copy of the function that it edits, which stands beside that one
+A check says of each function whether it is proved, so many bugs are tried in one (`rattle check --only F ..`), which proves these functions and
+those that they call. `rt ci` has proved the unchanged crate. Each bug is made in a copy of the function that it edits, which stands beside that one
 with a copy of its proof, so that none is in the way of another. It is refused if a goal of its copy is not proved. Of one function in eight, which
 its text chooses, a copy without a bug is made too, and has to be proved.
 The others are made in place, at most one of each function in a check: those in a trait's method or in a cycle of calls, and those that were not
@@ -16,6 +16,7 @@ refuses for its form, shows nothing, and fails.
 A crate is stale if the kit changed, its bugs, its sources or definitions, or the definitions and clauses of the crates below it.
 """
 
+import contextlib
 import copy
 import hashlib
 import os
@@ -240,53 +241,45 @@ class Lab:
             for part in ("src", "specs", "proofs"):
                 if (ROOT / "crates" / crate / part).is_dir():
                     shutil.copytree(ROOT / "crates" / crate / part, self.room / "crates" / crate / part)
-        # What was proved of the unchanged crates stands here: the gate proves them beside this.
-        self.proved = ROOT if in_gate else self.room / "libraries"
+        # The gate proves the crates themselves beside this.
         if owed := needed if in_gate else needed | set(crates):
-            self.prove(owed, lanes, in_gate)
+            self.prove(owed)
 
-    def prove(self, crates, lanes, in_gate):
-        """Has these crates proved. In the gate `rt ci` takes what it proves there; else `rt check` takes what earlier checks kept, and leaves what the
-        checks of bugs begin with. Crates that don't wait for each other are proved side by side, with few jobs each: every job reads the crate."""
+    def prove(self, crates):
+        """Has `rt ci` prove these crates, or take what it kept of them."""
         folder = self.room / "libraries"
         for crate in crates:
             shutil.copytree(self.room / "crates" / crate, folder / "crates" / crate)
         shutil.copy(ROOT / "HANDLES", folder)
         lines = [line for line in (ROOT / "crates.txt").read_text().splitlines() if re.match(r"\w*", line)[0] in crates]
         (folder / "crates.txt").write_text("".join(f"{line}\n" for line in lines))
-        if in_gate:
-            # Without RT_JOBS a proof that no other waits beside takes several processors.
-            self.run(["rt", "ci"], folder, {name: it for name, it in os.environ.items() if name != "RT_JOBS"})
-            return
-        proved, room = {}, threading.Semaphore(max(1, lanes // 2))
-
-        def prove_one(crate):
-            for it in below(crate, self.uses):
-                proved[it].result()
-            with room:
-                self.run(["rt", "check", "--jobs", "2"], folder / "crates" / crate)
-
-        with ThreadPoolExecutor(len(lines)) as pool:
-            for crate in (re.match(r"\w*", line)[0] for line in lines):
-                proved[crate] = pool.submit(prove_one, crate)
-            for it in proved.values():
-                it.result()
-
-    def run(self, words, place, told=None):
-        ran = subprocess.run(words, cwd=place, env=told, capture_output=True, text=True, check=False)
+        # Without RT_JOBS a proof that no other waits beside takes several processors.
+        told = {name: it for name, it in os.environ.items() if name != "RT_JOBS"}
+        ran = subprocess.run(["rt", "ci"], cwd=folder, env=told, capture_output=True, text=True, check=False)
         if ran.returncode:
-            sys.exit(f"planted: the libraries below are not proved\n{ran.stdout[-2000:]}{ran.stderr[-500:]}")
+            sys.exit(f"planted: the crates are not proved as they are\n{ran.stdout[-2000:]}{ran.stderr[-500:]}")
 
-    def check(self, crate, folder, kept, only=()):
+    def names(self, crate, folder):
+        """The names of a crate's proofs."""
+        with tempfile.TemporaryDirectory(dir=self.room) as room:
+            said = self.check(crate, folder, f"{room}/kept", ["--generated", room, "--old-names"])[1]
+            listed = Path(room, "names.json")
+            if not listed.is_file():
+                sys.exit(f"planted: {crate} has no names\n{said[-2000:]}")
+            found = re.findall(rf'"Rattle-{crate}-proofs\.([^"]*)\.Lts":', listed.read_text())
+        return [f"{crate}::{name.replace('.', '::')}" for name in found]
+
+    def check(self, crate, folder, kept, more=()):
         """The status of a check of a crate in a folder, over what an earlier one kept, and what it said."""
-        words = ["rattle", "check", "--crate-name", crate, "src/lib.rt", "--links", f"{crate}=", "--jobs", "1", "--incremental", str(kept)]
+        words = ["rattle", "check", "--crate-name", crate, "src/lib.rt", "--links", f"{crate}=", "--jobs", "1"]
+        words += ["--incremental", str(kept), *more]
         for name in ["std", *(it for it in self.uses[crate] if it not in self.uses)]:
             words += ["--extern", f"{name}={self.kit}/rlibs/{name}.rlib"]
         for name in below(crate, self.uses):
             rlib = self.room / f"libraries/crates/{name}/out/rlib"
             words += ["--extern", f"{name}={rlib}/{name}.rlib"] * (name in self.uses[crate]) + ["-L", f"dependency={rlib}"]
         words += ["-L", f"dependency={self.kit}/rlibs", "--antt-project", f"{self.kit}/rattle/logic/antt-project.json"]
-        words += ["--logic-built", f"{self.kit}/logic_built", *(word for it in only for word in ("--only", it))]
+        words += ["--logic-built", f"{self.kit}/logic_built"]
         if re.search(rf"^{crate} staticlib:", (ROOT / "crates.txt").read_text(), re.M):
             words += ["--crate-type", "staticlib"]
         with self.lanes:
@@ -295,26 +288,23 @@ class Lab:
 
 
 class Trial:
-    """The bugs of one crate, tried over what a check of the unchanged crate kept."""
+    """The bugs of one crate, tried over what the first check of them kept."""
 
     def __init__(self, lab, crate, pool):
         self.lab, self.crate, self.pool, self.checks = lab, crate, pool, 0
-        self.folder, self.seed = lab.room / "crates" / crate, lab.room / "seeds" / crate
+        self.folder, self.seed = lab.room / "crates" / crate, lab.room / f"seed-{crate}"
 
     def run(self):
         """What became of each bug, by its name: a verdict, and why."""
-        kept = self.lab.proved / "crates" / self.crate / "out/incremental"
-        if kept.is_dir():
-            linked(kept, self.seed)
-        status, said = self.lab.check(self.crate, self.folder, self.seed)
-        if status:
-            sys.exit(f"planted: {self.crate} is not proved as it is\n{said[-2000:]}")
-        self.names = re.findall(r"^fn (\S+): ", said, re.M)
+        self.names = self.lab.names(self.crate, self.folder)
         bugs = [Bug(edit, self.folder) for edit in bugs_of(self.crate)]
         found = {bug.name: (BAD, bug.why) for bug in bugs if bug.why}
         copied = [bug for bug in bugs if not bug.why and bug.has_copy()]
-        for told in self.pool.map(self.in_copies, [copied[at : at + MOST_COPIES] for at in range(0, len(copied), MOST_COPIES)]):
-            found |= {name: (REFUSED, "in a copy") for name in told}
+        # The first check of copies proves what they call, and the others take that from it.
+        refused = self.in_copies(copied[:MOST_COPIES]) if copied else set()
+        for told in self.pool.map(self.in_copies, [copied[at : at + MOST_COPIES] for at in range(MOST_COPIES, len(copied), MOST_COPIES)]):
+            refused |= told
+        found |= {name: (REFUSED, "in a copy") for name in refused}
         waiting = [bug for bug in bugs if bug.name not in found and bug.proofs(self.names)]
         alone = [bug for bug in bugs if bug.name not in found and not bug.proofs(self.names)]
         while waiting:
@@ -325,6 +315,8 @@ class Trial:
             if len(later) == len(waiting):
                 alone, later = alone + later, []
             waiting = later
+        if alone and self.lab.check(self.crate, self.folder, self.seed)[0]:
+            sys.exit(f"planted: {self.crate} is not proved as it is")
         return found | dict(self.pool.map(self.whole, alone))
 
     def in_copies(self, bugs):
@@ -398,8 +390,14 @@ class Trial:
 
     def check(self, folder, only=()):
         self.checks += 1
-        linked(self.seed, f"{folder}/kept")
-        return self.lab.check(self.crate, f"{folder}/crate", f"{folder}/kept", only)
+        kept = Path(folder, "kept")
+        if self.seed.is_dir():
+            linked(self.seed, kept)
+        said = self.lab.check(self.crate, f"{folder}/crate", kept, [word for it in only for word in ("--only", it)])
+        if kept.is_dir() and not self.seed.is_dir():
+            with contextlib.suppress(OSError):  # Another check was the first.
+                kept.rename(self.seed)
+        return said
 
 
 def dealt(bugs):
