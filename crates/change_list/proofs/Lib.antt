@@ -2,5 +2,4 @@ pub mod Addresses
 pub mod TakenUp
 pub mod Positions
 mod Indexed
-mod Numbers
 mod Noted

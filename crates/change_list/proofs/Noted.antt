@@ -15,7 +15,7 @@ use Rattle.cst_core.specs.SyntaxElement.{element_of}
 use Rattle.cst_core.specs.declared.element.SyntaxElement.{SyntaxElement}
 use Rattle.edit_change.specs.declared.change.Change.{Change}
 use Rattle.edit_change.specs.declared.change.Change.TheVariants.{Insert, InsertAll, Replace, ReplaceWithMany, ReplaceAll}
-use Rattle.change_list.specs.declared.replace_table.Replaced.{Replaced}
+use Rattle.change_list.specs.declared.change_list.Replaced.{Replaced}
 use Rattle.change_list.specs.inner.ByPath.{is_replace, replacement_at, replacements_at, is_replace_at}
 use Rattle.change_list.specs.inner.Indexing.{replaced_at, as_deleted}
 use Rattle.change_list.proofs.Addresses.{same_path-true}

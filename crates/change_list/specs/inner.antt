@@ -1,4 +1,3 @@
 -- What private calls cite.
 pub mod Indexing
-pub mod Numbered
 pub mod ByPath

@@ -10,11 +10,12 @@ ghost use Rattle.edit_change.specs.declared.change.Change.{Change};
 ghost use Rattle.edit_change.specs.declared.change.Change.TheVariants.{Replace};
 ghost use Rattle.change_list.specs.Recording.{with_replacement, merged};
 ghost use Rattle.change_list.specs.inner.ByPath.{is_replace, is_replace_at, replacements_at, replace_at, delete_at, delete_each_at};
-ghost use Rattle.change_list.specs.inner.Indexing.{number_at, number_of, entry_at, IsNumbered, Agrees, Notes, NotesReplace};
+ghost use Rattle.path_table.specs.inner.PathTable.{place_at, SameValues, IsTree};
+ghost use Rattle.change_list.specs.inner.Indexing.{place_of, Agrees, Notes, NotesReplace};
 
-use crate::replace_table::{ReplaceTable, Replaced};
 use cst_core::SyntaxElement;
 use edit_change::Change;
+use path_table::PathTable;
 use std::alloc::{AllocError, Global};
 use std::marker::Model;
 
@@ -23,7 +24,17 @@ use std::marker::Model;
 #[derive(Drop)]
 pub struct ChangeList {
     changes: Vec<Change>,
-    replaced: ReplaceTable,
+    // By path. All that takes memory is done before anything is set, so that a refusal leaves it as it was.
+    replaced: PathTable<Replaced>,
+}
+
+/// What a list of changes has of an element that is replaced by one or by none.
+#[derive(Clone, Copy)]
+pub(crate) struct Replaced {
+    /// Where the first such change stands.
+    pub(crate) first: usize,
+    /// Whether one of these changes is a deletion.
+    pub(crate) is_deleted: bool,
 }
 
 impl Model for ChangeList {
@@ -49,7 +60,7 @@ impl ChangeList {
     {
         ChangeList {
             changes: Vec::new(alloc),
-            replaced: ReplaceTable::new(alloc),
+            replaced: PathTable::new(alloc),
         }
     }
 
@@ -83,9 +94,9 @@ impl ChangeList {
         ensures ok { OnOk result (self.new ≡ replace_at element new self.old) }
         ensures err { OnErr result (self.new ≡ self.old) }
     {
-        let number = self.replaced.enter(element.slots())?;
+        let place = self.replaced.enter(element.slots())?;
         self.changes.reserve(1)?;
-        replace_element(&mut self.changes, &mut self.replaced, number, element, new);
+        replace_element(&mut self.changes, &mut self.replaced, place, element, new);
         Ok(())
     }
 
@@ -95,9 +106,9 @@ impl ChangeList {
         ensures ok { OnOk result (self.new ≡ delete_at element self.old) }
         ensures err { OnErr result (self.new ≡ self.old) }
     {
-        let number = self.replaced.enter(element.slots())?;
+        let place = self.replaced.enter(element.slots())?;
         self.changes.reserve(1)?;
-        delete_element(&mut self.changes, &mut self.replaced, number, element);
+        delete_element(&mut self.changes, &mut self.replaced, place, element);
         Ok(())
     }
 
@@ -111,9 +122,9 @@ impl ChangeList {
         ensures ok { OnOk result (self.new ≡ delete_each_at elements.items self.old) }
         ensures err { OnErr result (self.new ≡ self.old) }
     {
-        let numbers = entered(alloc, &mut self.replaced, &elements)?;
+        let places = entered(alloc, &mut self.replaced, &elements)?;
         self.changes.reserve(elements.len())?;
-        delete_elements(&mut self.changes, &mut self.replaced, &numbers, elements);
+        delete_elements(&mut self.changes, &mut self.replaced, &places, elements);
         Ok(())
     }
 
@@ -128,7 +139,7 @@ impl ChangeList {
         let replaced = index_of(alloc, &self.changes, &other.changes)?;
         self.changes.append(&mut other.changes)?;
         self.replaced = replaced;
-        other.replaced = ReplaceTable::new(alloc);
+        other.replaced = PathTable::new(alloc);
         Ok(())
     }
 
@@ -143,90 +154,90 @@ impl ChangeList {
     }
 }
 
-// The numbers of elements, by which an index knows them. What it says stays as it is.
+// The places of elements in an index. What it says stays as it is.
 fn entered(
     alloc: Global,
-    replaced: &mut ReplaceTable,
+    replaced: &mut PathTable<Replaced>,
     elements: &[SyntaxElement],
 ) -> Result<Vec<usize>, AllocError>
-    requires { IsNumbered replaced.old }
-    ensures numbered { IsNumbered replaced.new }
-    ensures numbers { IfOk result (λ v. map Some v.items ≡ map (number_of replaced.new) elements.now) }
-    ensures said { (p : Path) → entry_at replaced.new p ≡ entry_at replaced.old p }
+    requires { IsTree replaced.old }
+    ensures tree { IsTree replaced.new }
+    ensures places { IfOk result (λ v. map Some v.items ≡ map (place_of replaced.new) elements.now) }
+    ensures said { SameValues replaced.old replaced.new }
 {
-    let mut numbers = Vec::with_capacity(alloc, elements.len())?;
+    let mut places = Vec::with_capacity(alloc, elements.len())?;
     for element in elements {
-        numbers.push(replaced.enter(element.slots())?)?;
+        places.push(replaced.enter(element.slots())?)?;
     }
-    Ok(numbers)
+    Ok(places)
 }
 
 // Puts the first Replace of an element at the end, where there is room for it.
 fn add_replace(
     changes: &mut Vec<Change>,
-    replaced: &mut ReplaceTable,
-    number: usize,
+    replaced: &mut PathTable<Replaced>,
+    place: usize,
     element: SyntaxElement,
     new: Option<SyntaxElement>,
 )
     requires first { position (is_replace_at (element_of element).path) changes.old.items ≡ None }
     requires has_room { vec_len changes.old < vec_capacity changes.old }
-    requires number { number_of replaced.old element ≡ Some number }
+    requires place { place_of replaced.old element ≡ Some place }
     requires agrees { Agrees replaced.old changes.old.items }
     ensures list { changes.new.items ≡ changes.old.items ++ Replace element new ∷ [] }
     ensures agrees { Agrees replaced.new changes.new.items }
-    ensures numbers { (p : Path) → number_at replaced.new p ≡ number_at replaced.old p }
+    ensures places { (p : Path) → place_at replaced.new p ≡ place_at replaced.old p }
     ensures len { vec_len changes.new ≡ vec_len changes.old + 1 }
     ensures capacity { vec_capacity changes.new ≡ vec_capacity changes.old }
 {
     let first = changes.len();
     let is_deleted = new.is_none();
     changes.push_reserved(Change::Replace(element, new));
-    replaced.set(number, Replaced { first, is_deleted });
+    replaced.set(place, Replaced { first, is_deleted });
 }
 
 // Replaces an element, where there is room for one more change.
 fn replace_element(
     changes: &mut Vec<Change>,
-    replaced: &mut ReplaceTable,
-    number: usize,
+    replaced: &mut PathTable<Replaced>,
+    place: usize,
     element: SyntaxElement,
     new: SyntaxElement,
 )
     requires has_room { vec_len changes.old < vec_capacity changes.old }
-    requires number { number_of replaced.old element ≡ Some number }
+    requires place { place_of replaced.old element ≡ Some place }
     requires agrees { Agrees replaced.old changes.old.items }
     ensures list { changes.new.items ≡ replace_at element new changes.old.items }
     ensures agrees { Agrees replaced.new changes.new.items }
 {
-    match replaced.at(number) {
+    match replaced.at(Some(place)) {
         Some(known) => take_up(&mut changes[known.first], new),
-        None => add_replace(changes, replaced, number, element, Some(new)),
+        None => add_replace(changes, replaced, place, element, Some(new)),
     }
 }
 
 // Deletes an element, where there is room for one more change.
 fn delete_element(
     changes: &mut Vec<Change>,
-    replaced: &mut ReplaceTable,
-    number: usize,
+    replaced: &mut PathTable<Replaced>,
+    place: usize,
     element: SyntaxElement,
 )
     requires has_room { vec_len changes.old < vec_capacity changes.old }
-    requires number { number_of replaced.old element ≡ Some number }
+    requires place { place_of replaced.old element ≡ Some place }
     requires agrees { Agrees replaced.old changes.old.items }
     ensures list { changes.new.items ≡ delete_at element changes.old.items }
     ensures agrees { Agrees replaced.new changes.new.items }
-    ensures numbers { (p : Path) → number_at replaced.new p ≡ number_at replaced.old p }
+    ensures places { (p : Path) → place_at replaced.new p ≡ place_at replaced.old p }
     ensures len { vec_len changes.new ≤ vec_len changes.old + 1 }
     ensures capacity { vec_capacity changes.new ≡ vec_capacity changes.old }
 {
-    let Some(known) = replaced.at(number) else {
-        return add_replace(changes, replaced, number, element, None);
+    let Some(known) = replaced.at(Some(place)) else {
+        return add_replace(changes, replaced, place, element, None);
     };
     take_away(&mut changes[known.first]);
     replaced.set(
-        number,
+        place,
         Replaced {
             first: known.first,
             is_deleted: true,
@@ -237,37 +248,45 @@ fn delete_element(
 // Deletes these elements one after the other, where there is room for all of them.
 fn delete_elements(
     changes: &mut Vec<Change>,
-    replaced: &mut ReplaceTable,
-    numbers: &[usize],
+    replaced: &mut PathTable<Replaced>,
+    places: &[usize],
     elements: Vec<SyntaxElement>,
 )
     requires has_room { vec_len changes.old + length elements.items ≤ vec_capacity changes.old }
-    requires numbers { map Some numbers.now ≡ map (number_of replaced.old) elements.items }
+    requires places { map Some places.now ≡ map (place_of replaced.old) elements.items }
     requires agrees { Agrees replaced.old changes.old.items }
     ensures list { changes.new.items ≡ delete_each_at elements.items changes.old.items }
     ensures agrees { Agrees replaced.new changes.new.items }
 {
-    for (number, element) in numbers.iter().zip(elements) {
-        delete_element(changes, replaced, *number, element);
+    for (place, element) in places.iter().zip(elements) {
+        delete_element(changes, replaced, *place, element);
     }
 }
 
 // The index of two lists, the second after the first.
-fn index_of(alloc: Global, own: &[Change], other: &[Change]) -> Result<ReplaceTable, AllocError>
+fn index_of(
+    alloc: Global,
+    own: &[Change],
+    other: &[Change],
+) -> Result<PathTable<Replaced>, AllocError>
     requires { length own.now + length other.now < 2 ^ 64 }
     ensures { IfOk result (λ x. Agrees x (own.now ++ other.now)) }
 {
-    let mut index = ReplaceTable::new(alloc);
+    let mut index = PathTable::new(alloc);
     note_all(&mut index, 0, own)?;
     note_all(&mut index, own.len(), other)?;
     Ok(index)
 }
 
 // Tells the index of a list of more changes at its end, where the list has n.
-fn note_all(index: &mut ReplaceTable, before: usize, changes: &[Change]) -> Result<(), AllocError>
+fn note_all(
+    index: &mut PathTable<Replaced>,
+    before: usize,
+    changes: &[Change],
+) -> Result<(), AllocError>
     requires small { before + length changes.now < 2 ^ 64 }
-    requires numbered { IsNumbered index.old }
-    ensures numbered { IsNumbered index.new }
+    requires tree { IsTree index.old }
+    ensures tree { IsTree index.new }
     ensures noted { Notes result before changes.now index.old index.new }
 {
     let mut number = before;
@@ -279,9 +298,9 @@ fn note_all(index: &mut ReplaceTable, before: usize, changes: &[Change]) -> Resu
 }
 
 // Tells the index of a list of one more change, which stands at this number.
-fn note(index: &mut ReplaceTable, number: usize, change: &Change) -> Result<(), AllocError>
-    requires { IsNumbered index.old }
-    ensures numbered { IsNumbered index.new }
+fn note(index: &mut PathTable<Replaced>, number: usize, change: &Change) -> Result<(), AllocError>
+    requires { IsTree index.old }
+    ensures tree { IsTree index.new }
     ensures noted { Notes result number (change.now ∷ []) index.old index.new }
 {
     match change {
@@ -292,26 +311,26 @@ fn note(index: &mut ReplaceTable, number: usize, change: &Change) -> Result<(), 
 
 // Tells it of a Replace. The first one of an element stays its first.
 fn note_replace(
-    index: &mut ReplaceTable,
+    index: &mut PathTable<Replaced>,
     number: usize,
     element: &SyntaxElement,
     is_deleted: bool,
 ) -> Result<(), AllocError>
-    requires { IsNumbered index.old }
-    ensures numbered { IsNumbered index.new }
+    requires { IsTree index.old }
+    ensures tree { IsTree index.new }
     ensures noted { NotesReplace result number element.now is_deleted index.old index.new }
 {
-    let entry = index.enter(element.slots())?;
-    match index.at(entry) {
+    let place = index.enter(element.slots())?;
+    match index.at(Some(place)) {
         None => index.set(
-            entry,
+            place,
             Replaced {
                 first: number,
                 is_deleted,
             },
         ),
         Some(known) => index.set(
-            entry,
+            place,
             Replaced {
                 first: known.first,
                 is_deleted: known.is_deleted || is_deleted,

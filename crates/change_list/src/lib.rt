@@ -2,6 +2,5 @@
 #![tactic(auto)]
 
 mod change_list;
-mod replace_table;
 
 pub use change_list::ChangeList;

@@ -16,7 +16,7 @@ use Rattle.cst_core.specs.Tree.{SyntaxTree, Node, Token, children, at, is_token}
 use Rattle.cst_core.specs.Element.{Address, Element, address, element_at, root_of, IsNode}
 use Rattle.cst_core.specs.SyntaxElement.{syntax_at, syntax_as}
 use Rattle.cst_core.specs.declared.element.SyntaxElement.TheVariants as variants
-use Rattle.path_table.specs.inner.PathTable.{number_by_path, SameNumbers, IsPut}
+use Rattle.path_table.specs.inner.PathTable.{value_by_path, SameValues, IsPut}
 use Rattle.path_table.specs.declared.table.PathTable.{PathTable}
 use Rattle.edit_map.specs.Mapping.{Mapping, copy}
 use Rattle.edit_map.specs.Builder.{IsMadeOf}
@@ -26,19 +26,19 @@ use Rattle.edit_map.proofs.Copies.{same_path-from, pair_of_copy}
 use Rattle.edit_map.proofs.Making.{copy-append}
 
 -- ---- a number put at a path
-put-before : (t u : PathTable) (p q : Path) (n : ℕ) → IsPut t u p n → number_by_path u q ≡ None → number_by_path t q ≡ None
+put-before : {V : Type 0} (t u : PathTable V) (p q : Path) (n : V) → IsPut t u p n → value_by_path u q ≡ None → value_by_path t q ≡ None
 put-before t u p q n put free =
-    elim (cases_Bool (same_path q p)) [
-      | inl here ↦ absurd (none-some n (sym free ∙ put q ∙ ap (λ b. cond b (Some n) (number_by_path t q)) here))
-      | inr other ↦ ap (λ b. cond b (Some n) (number_by_path t q)) (sym other) ∙ sym (put q) ∙ free
+    elim (cases_Bool (same_path p q)) [
+      | inl here ↦ absurd (none-some n (sym free ∙ put q ∙ ap (λ b. cond b (Some n) (value_by_path t q)) here))
+      | inr other ↦ ap (λ b. cond b (Some n) (value_by_path t q)) (sym other) ∙ sym (put q) ∙ free
     ]
 
-pub put-free : {T E : Type 0} (t u : PathTable) (p q : Path) (n : ℕ) (r : Result T E) → OnOk r (IsPut t u p n) → OnErr r (SameNumbers t u) → number_by_path u q ≡ None → number_by_path t q ≡ None
+pub put-free : {T E V : Type 0} (t u : PathTable V) (p q : Path) (n : V) (r : Result T E) → OnOk r (IsPut t u p n) → OnErr r (SameValues t u) → value_by_path u q ≡ None → value_by_path t q ≡ None
 put-free t u p q n (Ok x) put same free = put-before t u p q n put free
 put-free t u p q n (Err e) put same free = sym (same q) ∙ free
 
-pub put-taken : {T E : Type 0} (t u : PathTable) (p : Path) (n : ℕ) (r : Result T E) → OnOk r (IsPut t u p n) → OnOk r (number_by_path u p ≡ None → ⊥)
-put-taken t u p n (Ok x) put = λ free. none-some n (sym free ∙ put p ∙ ap (λ b. cond b (Some n) (number_by_path t p)) (same_path-from p p refl))
+pub put-taken : {T E V : Type 0} (t u : PathTable V) (p : Path) (n : V) (r : Result T E) → OnOk r (IsPut t u p n) → OnOk r (value_by_path u p ≡ None → ⊥)
+put-taken t u p n (Ok x) put = λ free. none-some n (sym free ∙ put p ∙ ap (λ b. cond b (Some n) (value_by_path t p)) (same_path-from p p refl))
 put-taken t u p n (Err e) put = tt
 
 pub All-free : (s u : Stops) (pairs : Mapping) → ((x : Address) → IsFree u x → IsFree s x) → StopsAll s pairs → StopsAll u pairs

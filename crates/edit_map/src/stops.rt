@@ -13,7 +13,7 @@ use std::alloc::{AllocError, Global};
 #[derive(Drop)]
 pub(crate) struct Stops {
     // The tree's number comes first on the path, and then come the slots.
-    cells: PathTable,
+    cells: PathTable<()>,
 }
 
 // Whether the node above another one at this depth may be a payload.
@@ -74,7 +74,7 @@ impl Stops {
         let mut path = Vec::with_capacity(alloc, node.slots().len() + 1)?;
         path.push(node.tree() as usize)?;
         path.extend_from_slice(node.slots())?;
-        self.cells.insert(&path, 0)
+        self.cells.insert(&path, ())
     }
 
     /// Takes up the first nodes of these pairs.
@@ -102,7 +102,7 @@ impl Stops {
         let mut stop = None;
         let mut cell = self.cells.below(self.cells.top(), node.tree() as usize);
         for (depth, slot) in node.slots().iter().enumerate() {
-            if self.cells.number(cell).is_some() || may_be(payload, node, depth) {
+            if self.cells.at(cell).is_some() || may_be(payload, node, depth) {
                 stop = Some(depth);
             }
             cell = self.cells.below(cell, *slot);

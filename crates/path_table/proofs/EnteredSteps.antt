@@ -9,7 +9,7 @@ use Rattle.std.proofs.Common.{ap, ap₂, sym, subst, ◌∙◌, arith}
 use Rattle.std.proofs.lemmas.Bool.{cases_Bool, and_parts, eqb-true, eq-eqb}
 use Rattle.std.proofs.lemmas.Option.{same_Some}
 use mathlib.Core.Logic.{inl, inr}
-use Rattle.path_table.proofs.PathTables.{number-set}
+use Rattle.path_table.proofs.PathTables.{value-set}
 use Rattle.path_table.specs.inner.Steps.{Steps, step, latest_from, IsEntered, AreAmong}
 
 pub entered-as : {before after again : Steps} {n i m : ℕ} → again ≡ after → IsEntered before after n i m → IsEntered before again n i m
@@ -31,7 +31,7 @@ entered-before s n i m is = record {
 
 pub entered-latest : (before after : Steps) (n i m : ℕ) (latest : List (Option (ℕ × ℕ))) → n < length latest → IsEntered before after n i m → AreAmong before latest → AreAmong after (slice_set latest n (Some (i, m)))
 entered-latest before after n i m latest within made among a j k h =
-    let now : cond (nat_eq n a) (Some (i, m)) (option_flatten (slice_get latest a)) ≡ Some (j, k) = sym (number-set latest n a (i, m) within) ∙ h in
+    let now : cond (nat_eq n a) (Some (i, m)) (option_flatten (slice_get latest a)) ≡ Some (j, k) = sym (value-set latest n a (i, m) within) ∙ h in
     elim (cases_Bool (nat_eq n a)) [
       | inl here ↦
           let same : (i, m) ≡ (j, k) = same_Some (i, m) (j, k) (sym (ap (λ b. cond b (Some (i, m)) (option_flatten (slice_get latest a))) here) ∙ now) in

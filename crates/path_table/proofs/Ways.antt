@@ -35,10 +35,10 @@ shared-more way path k within within_path same next =
 pub end-more : (way : Way) (k : ℕ) → k < length way → way_end 0 (take (k + 1) way) ≡ (get_or way k (0, 0)).1
 end-more way k within = ap (way_end 0) (take_more way k (0, 0) within) ∙ end-push 0 (take k way) (get_or way k (0, 0)).0 (get_or way k (0, 0)).1
 
-pub way-leads : (t : PathTable) (n : ℕ) (way : Way) → IsWay t.steps n way → cell_further t (Some n) (slots_of way) ≡ Some (way_end n way)
+pub way-leads : {V : Type 0} (t : PathTable V) (n : ℕ) (way : Way) → IsWay t.steps n way → cell_further t (Some n) (slots_of way) ≡ Some (way_end n way)
 way-leads t n [] is = refl
 way-leads t n (x ∷ way) is = ap (λ o. cell_further t o (slots_of way)) is.0 ∙ way-leads t x.1 way is.1
 
-pub end-within : (t : PathTable) → IsTree t → (n : ℕ) (way : Way) → n ≤ size t → IsWay t.steps n way → way_end n way ≤ size t
+pub end-within : {V : Type 0} (t : PathTable V) → IsTree t → (n : ℕ) (way : Way) → n ≤ size t → IsWay t.steps n way → way_end n way ≤ size t
 end-within t tree n [] here is = here
 end-within t tree n (x ∷ way) here is = end-within t tree x.1 way ((tree.steps n x.0 x.1 is.0).1) is.1

@@ -1,4 +1,4 @@
-//! Numbers by path, as a tree of cells, so that a way down asks for each slot once.
+//! Values by path, as a tree of cells, so that a way down asks for each slot once.
 #![tactic(auto)]
 
 mod steps;

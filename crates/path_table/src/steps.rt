@@ -1,7 +1,7 @@
 //! `Steps`: the step from a cell to the one below it at a slot. The latest from each cell is kept, so a chain hashes nothing.
 
 ghost use Rattle.std.specs.Prelude.{◌≡◌, ◌≤◌, ◌<◌, ◌^◌, ℕ, [], length, OnOk, OnErr, IfOk, IfSome, Some};
-ghost use Rattle.path_table.specs.inner.Steps.{step, latest_from, IsEntered, AreSame};
+ghost use Rattle.path_table.specs.inner.Steps.{step, latest_from, IsEntered};
 
 use std::alloc::{AllocError, Global};
 use std::collections::HashMap;
@@ -73,15 +73,6 @@ impl Steps {
         ensures small { result < 2 ^ 63 }
     {
         self.by_slot.len()
-    }
-
-    /// Makes room for more cells.
-    ///
-    /// Refused for memory alone.
-    pub(crate) fn reserve(&mut self, more: usize) -> Result<(), AllocError>
-        ensures { AreSame self.old self.new }
-    {
-        self.by_slot.reserve(more)
     }
 
     // The cell below a cell, at a slot, if it was entered last there.

@@ -1,20 +1,20 @@
-//! `PathTable`: numbers by path. Each path leads to a cell of its own, so that one walk down finds the numbers on the way.
+//! `PathTable`: values by path. Each path leads to a cell of its own, so that one walk down finds the values on the way.
 
-ghost use Rattle.std.specs.Prelude.{◌≡◌, ◌≤◌, ◌<◌, ◌+◌, ℕ, Option, None, Some, OnOk, OnErr, IfOk, length, take, unwrap_or};
+ghost use Rattle.std.specs.Prelude.{◌≡◌, ◌≤◌, ◌<◌, ◌+◌, ℕ, Option, None, Some, OnOk, OnErr, IfOk, length, take};
 ghost use Rattle.green_tree.specs.Path.{Path};
-ghost use Rattle.path_table.specs.inner.PathTable.{cell_below, next_cell, cell_further, cell_at, number_in, number_by_path, SameSteps, SameCells, SameNumbers, IsPut, size, IsTree, IsGrown};
+ghost use Rattle.path_table.specs.inner.PathTable.{cell_below, next_cell, cell_at, place_at, value_in, value_by_path, KeepsPlaces, SameValues, IsPut, size, IsTree, IsGrown};
 ghost use Rattle.path_table.specs.inner.Steps.{slots_of, way_end};
 
 use crate::steps::Steps;
 use std::alloc::{AllocError, Global};
 
-/// Numbers by path. From the top each path leads, by one step a slot, to a cell of its own; so a way down costs its length, and
-/// finds the numbers of all elements on it.
+/// Values by path. From the top each path leads, by one step a slot, to a cell of its own; so a way down costs its length, and
+/// finds the values of all elements on it.
 #[derive(Drop)]
-pub struct PathTable {
+pub struct PathTable<V> {
     steps: Steps,
     // By cell; the last cells may be missing, and have none.
-    numbers: Vec<Option<usize>>,
+    values: Vec<Option<V>>,
     // The slots of the path that was entered last, each with the cell that it leads to. The next path goes on where the two part, so
     // paths near to each other are entered together.
     way: Vec<(usize, usize)>,
@@ -38,29 +38,17 @@ fn shared(way: &[(usize, usize)], path: &[usize]) -> (usize, usize)
     (most, cell)
 }
 
-impl PathTable {
+impl<V: Copy> PathTable<V> {
     /// A table of nothing.
-    pub fn new(alloc: Global) -> PathTable
-        ensures empty { (p : Path) → number_by_path result p ≡ None }
+    pub fn new(alloc: Global) -> PathTable<V>
+        ensures empty { (p : Path) → value_by_path result p ≡ None }
         ensures tree { IsTree result }
     {
         PathTable {
             steps: Steps::new(alloc),
-            numbers: Vec::new(alloc),
+            values: Vec::new(alloc),
             way: Vec::new(alloc),
         }
-    }
-
-    /// A table of nothing, with room for so many cells below the top.
-    ///
-    /// Refused for memory alone.
-    pub fn with_capacity(alloc: Global, capacity: usize) -> Result<PathTable, AllocError>
-        ensures empty { IfOk result (λ t. (p : Path) → number_by_path t p ≡ None) }
-        ensures tree { IfOk result IsTree }
-    {
-        let mut table = PathTable::new(alloc);
-        table.steps.reserve(capacity)?;
-        Ok(table)
     }
 
     /// The cell of the empty path.
@@ -77,43 +65,22 @@ impl PathTable {
         self.steps.below(cell?, slot)
     }
 
-    /// The number of a cell, if it has one.
-    pub fn number(&self, cell: Option<usize>) -> Option<usize>
-        ensures { result ≡ number_in self.now cell }
+    /// The value of a cell, if it has one.
+    pub fn at(&self, cell: Option<usize>) -> Option<V>
+        ensures { result ≡ value_in self.now cell }
     {
-        self.numbers.get(cell?).copied().flatten()
+        self.values.get(cell?).copied().flatten()
     }
 
-    /// The cell that a path leads to from a cell; `None` from none, and where the table has nothing.
-    pub fn descend(&self, cell: Option<usize>, path: &[usize]) -> Option<usize>
-        ensures { result ≡ cell_further self.now cell path.now }
+    /// The value at a path, if there is one.
+    pub fn get(&self, path: &[usize]) -> Option<V>
+        ensures { result ≡ value_by_path self.now path.now }
     {
-        let mut cell = cell;
+        let mut cell = self.top();
         for slot in path {
             cell = self.below(cell, *slot);
         }
-        cell
-    }
-
-    /// The number at a path, if there is one.
-    pub fn get(&self, path: &[usize]) -> Option<usize>
-        ensures { result ≡ number_by_path self.now path.now }
-    {
-        self.number(self.descend(self.top(), path))
-    }
-
-    /// The cell below a cell, at a slot. Where there is none it is made, has no number, and gets the next cell's number.
-    ///
-    /// Refused for memory alone. The cells are as they were then.
-    pub fn enter(&mut self, cell: usize, slot: usize) -> Result<usize, AllocError>
-        requires tree { IsTree self.old }
-        requires here { cell ≤ size self.old }
-        ensures leads { IfOk result (λ m. cell_below self.new cell slot ≡ Some m) }
-        ensures made { IfOk result (λ m. m ≡ unwrap_or (cell_below self.old cell slot) (size self.old + 1)) }
-        ensures grown { IsGrown self.old self.new }
-        ensures unchanged { OnErr result (SameSteps self.old self.new) }
-    {
-        self.steps.enter(cell, slot)
+        self.at(cell)
     }
 
     // The way goes on from its end to the cell at a slot.
@@ -129,10 +96,8 @@ impl PathTable {
         Ok(below)
     }
 
-    /// The cell of a path. Where there is none it is made, and the cells on the way to it that are missing.
-    ///
-    /// Refused for memory alone. The cells are then as they were, or some of those on the way were made.
-    pub fn enter_path(&mut self, path: &[usize]) -> Result<usize, AllocError>
+    // The cell of a path. Where there is none it is made, and the cells on the way to it that are missing.
+    fn enter_cells(&mut self, path: &[usize]) -> Result<usize, AllocError>
         requires { IsTree self.old }
         ensures leads { IfOk result (λ m. cell_at self.new path.now ≡ Some m) }
         ensures grown { IsGrown self.old self.new }
@@ -146,47 +111,58 @@ impl PathTable {
         Ok(cell)
     }
 
-    // A number or none for each cell.
+    // A value or none for each cell.
     fn make_room(&mut self) -> Result<(), AllocError>
         ensures steps { self.new.steps ≡ self.old.steps }
         ensures way { self.new.way ≡ self.old.way }
-        ensures numbers { (cell : Option ℕ) → number_in self.new cell ≡ number_in self.old cell }
-        ensures room { OnOk result (size self.new < length self.new.numbers.items) }
+        ensures values { (cell : Option ℕ) → value_in self.new cell ≡ value_in self.old cell }
+        ensures longer { length self.old.values.items ≤ length self.new.values.items }
+        ensures room { OnOk result (size self.new < length self.new.values.items) }
     {
         let count = self.steps.len() + 1;
-        if self.numbers.len() < count {
-            self.numbers.resize(count, None)?;
+        if self.values.len() < count {
+            self.values.resize(count, None)?;
         }
         Ok(())
     }
 
-    /// Puts a number at a cell, and gives the one that was there.
+    /// The cell of a path, at which a value can be set from now on. Where there is none it is made, and has no value.
     ///
-    /// Refused for memory alone. The cells and numbers are as they were then.
-    pub fn put(&mut self, cell: usize, number: usize) -> Result<Option<usize>, AllocError>
-        requires tree { IsTree self.old }
-        requires here { cell ≤ size self.old }
-        ensures before { IfOk result (λ n. n ≡ number_in self.old (Some cell)) }
-        ensures ok { OnOk result ((p : Path) → cell_at self.old p ≡ Some cell → IsPut self.old self.new p number) }
-        ensures err { OnErr result (SameNumbers self.old self.new) }
-        ensures cells { SameCells self.old self.new }
+    /// Refused for memory alone. The values are as they were then, and so is each cell that there was.
+    pub fn enter(&mut self, path: &[usize]) -> Result<usize, AllocError>
+        requires { IsTree self.old }
+        ensures entered { IfOk result (λ m. place_at self.new path.now ≡ Some m) }
+        ensures places { KeepsPlaces self.old self.new }
+        ensures values { SameValues self.old self.new }
         ensures tree { IsTree self.new }
     {
+        let cell = self.enter_cells(path)?;
         self.make_room()?;
-        Ok(self.numbers[cell].replace(number))
+        Ok(cell)
     }
 
-    /// Puts a number at a path, in place of the one that was there.
-    ///
-    /// Refused for memory alone. The numbers are as they were then.
-    pub fn insert(&mut self, path: &[usize], number: usize) -> Result<(), AllocError>
-        requires { IsTree self.old }
-        ensures ok { OnOk result (IsPut self.old self.new path.now number) }
-        ensures err { OnErr result (SameNumbers self.old self.new) }
+    /// Sets the value at the cell of a path that was entered.
+    pub fn set(&mut self, cell: usize, value: V)
+        requires tree { IsTree self.old }
+        requires entered { (p : Path) × (place_at self.old p ≡ Some cell) }
+        ensures put { (p : Path) → place_at self.old p ≡ Some cell → IsPut self.old self.new p value }
+        ensures places { (p : Path) → place_at self.new p ≡ place_at self.old p }
         ensures tree { IsTree self.new }
     {
-        let cell = self.enter_path(path)?;
-        self.put(cell, number)?;
+        self.values[cell] = Some(value);
+    }
+
+    /// Puts a value at a path, in place of the one that was there.
+    ///
+    /// Refused for memory alone. The values are as they were then.
+    pub fn insert(&mut self, path: &[usize], value: V) -> Result<(), AllocError>
+        requires { IsTree self.old }
+        ensures ok { OnOk result (IsPut self.old self.new path.now value) }
+        ensures err { OnErr result (SameValues self.old self.new) }
+        ensures tree { IsTree self.new }
+    {
+        let cell = self.enter(path)?;
+        self.set(cell, value);
         Ok(())
     }
 }

@@ -11,7 +11,7 @@ use Rattle.std.specs.Prelude.{◌≡◌, ◌≢◌, ℕ, ◌<◌, take, length, 
 use Rattle.cst_core.specs.Path.{Path}
 use Rattle.cst_core.specs.Element.{Address, Element, address}
 use Rattle.cst_core.specs.inner.InTree.{address_path}
-use Rattle.path_table.specs.inner.PathTable.{number_by_path, IsTree}
+use Rattle.path_table.specs.inner.PathTable.{value_by_path, IsTree}
 use Rattle.edit_map.specs.Mapping.{Mapping, copy}
 use Rattle.edit_map.specs.Builder.{IsMapping}
 use Rattle.edit_map.specs.declared.stops.Stops.{Stops}
@@ -30,7 +30,7 @@ IsLastStop passes n stop =
     MatchOption stop ((k : ℕ) → k < n → passes k) (λ d. (d < n) × ((k : ℕ) → d < k → k < n → passes k))
 
 abbrev pub IsFree : Stops → Address → Type 0
-IsFree stops x = number_by_path stops.cells (address_path x) ≡ None
+IsFree stops x = value_by_path stops.cells (address_path x) ≡ None
 
 abbrev pub IsStopAbove : Stops → Element → Element → Option ℕ → Type 0
 IsStopAbove stops node payload stop =

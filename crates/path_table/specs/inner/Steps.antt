@@ -2,7 +2,6 @@
 --     Steps                         a cell and a slot, and the cell below it there
 --     step                          the cell below a cell, at a slot
 --     IsEntered                     after a cell was entered at a slot: it is below now, the other steps are as before
---     AreSame                       the same steps, maybe in another order
 --     latest_from                   one step from a cell, with its slot, of a list that has some by cell
 --     AreAmong                      these are some of the steps
 --     Way                           the slots of a path, each with a cell
@@ -22,9 +21,6 @@ pub record IsEntered (before after : Steps) (n i m : ℕ) : Type 0 where
   pub made : m ≡ unwrap_or (step before n i) (length before + 1)
   pub steps : (a j : ℕ) → step after a j ≡ cond (nat_eq n a && nat_eq i j) (Some m) (step before a j)
   pub long : length after ≡ length before + (if is_some (step before n i) then 0 else 1)
-
-abbrev pub AreSame : Steps → Steps → Type 0
-AreSame before after = (length after ≡ length before) × ((n i : ℕ) → step after n i ≡ step before n i)
 
 abbrev pub latest_from : List (Option (ℕ × ℕ)) → ℕ → Option (ℕ × ℕ)
 latest_from latest n = option_flatten (slice_get latest n)

@@ -1,7 +1,8 @@
 use Rattle.std.proofs.Common.{◌≡◌, ◌++◌, ◌∷◌, [], Bool, true, false, not, Option, None, Some, is_some, is_none, length, arith, refl, sym, ◌∙◌, ap}
 use Rattle.cst_core.specs.SyntaxElement.{element_of}
 use Rattle.edit_change.specs.declared.change.Change.TheVariants.{Replace}
-use Rattle.change_list.specs.inner.Indexing.{replaced_at, entry_at}
+use Rattle.path_table.specs.inner.PathTable.{value_by_path}
+use Rattle.change_list.specs.inner.Indexing.{replaced_at}
 use Rattle.change_list.proofs.Indexed.{added-agrees}
 use Rattle.change_list.proofs.change_list.add_replace.Goals as goal
 
@@ -18,6 +19,6 @@ returns-clause-agrees c =
     let cs = c.args.changes.now.items in
     let first : c.len-first.result ≡ length cs = omega (arith, c.len-first.ensures, c.args.changes.now.ok.0) in
     record {
-      says = λ q. added-agrees e c.args.new cs (entry_at c.args.replaced.now) (entry_at c.set.new.self) p c.len-first.result c.is_none-is_deleted.result refl first (is_none-from c.args.new c.is_none-is_deleted.result c.is_none-is_deleted.ensures) c.requires.first c.requires.agrees.says (c.set.ensures.said p c.requires.number) q ∙ ap (replaced_at q) (sym c.push_reserved.ensures.items);
-      numbered = c.set.ensures.numbered;
+      says = λ q. added-agrees e c.args.new cs (value_by_path c.args.replaced.now) (value_by_path c.set.new.self) p c.len-first.result c.is_none-is_deleted.result refl first (is_none-from c.args.new c.is_none-is_deleted.result c.is_none-is_deleted.ensures) c.requires.first c.requires.agrees.says (c.set.ensures.put p c.requires.place) q ∙ ap (replaced_at q) (sym c.push_reserved.ensures.items);
+      tree = c.set.ensures.tree;
     }

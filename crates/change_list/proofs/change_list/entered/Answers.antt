@@ -1,8 +1,9 @@
 use Rattle.std.proofs.Common.{◌≡◌, ◌+◌, ◌++◌, ◌∷◌, [], Some, map, take, ap, ap₂, subst, sym, ◌∙◌}
 use Rattle.std.proofs.lemmas.List.{map-append, take_more}
 use Rattle.cst_core.specs.SyntaxElement.{element_of}
-use Rattle.change_list.specs.inner.Indexing.{number_at, number_of}
-use Rattle.change_list.proofs.Numbers.{numbers-kept}
+use Rattle.change_list.specs.inner.Indexing.{place_of}
+use Rattle.path_table.specs.inner.PathTable.{place_at}
+use Rattle.change_list.proofs.Addresses.{places-kept}
 use Rattle.change_list.proofs.change_list.entered.Goals as goal
 
 pub loop-element-preserved : goal.loop-element-preserved
@@ -11,15 +12,15 @@ loop-element-preserved c =
     let i = c.loop-element.element-index in
     let e = c.element-item.result in
     let n = c.in_ok-enter.field-0 in
-    let before = c.loop-element.numbers.items in
-    let now = number_of c.enter.new.self in
+    let before = c.loop-element.places.items in
+    let now = place_of c.enter.new.self in
     let more : take (i + 1) xs ≡ take i xs ++ e ∷ [] = take_more xs i e c.loop-element-test.true ∙ ap (λ x. take i xs ++ x ∷ []) (sym c.element-item.is) in
-    let entered : now e ≡ Some n = subst (λ p. number_at c.enter.new.self p ≡ Some n) c.slots.ensures c.in_ok-enter.ensures.entered in
+    let entered : now e ≡ Some n = subst (λ p. place_at c.enter.new.self p ≡ Some n) c.slots.ensures c.in_ok-enter.ensures.entered in
     record {
-      numbered = c.in_ok-enter.ensures.numbered;
-      numbers =
+      tree = c.in_ok-enter.ensures.tree;
+      places =
           ap (map (λ k. Some k)) c.in_ok-push.ensures.items ∙ map-append (λ k. Some k) before (n ∷ [])
-          ∙ ap₂ (λ a b. a ++ b ∷ []) (numbers-kept (number_of c.loop-element.replaced) now (λ x. c.in_ok-enter.ensures.kept (element_of x).path) before (take i xs) c.loop-element.invariant.numbers) (sym entered)
+          ∙ ap₂ (λ a b. a ++ b ∷ []) (places-kept (place_of c.loop-element.replaced) now (λ x. c.in_ok-enter.ensures.places (element_of x).path) before (take i xs) c.loop-element.invariant.places) (sym entered)
           ∙ sym (ap (map now) more ∙ map-append now (take i xs) (e ∷ []));
-      said = λ p. c.in_ok-enter.ensures.said p ∙ c.loop-element.invariant.said p;
+      said = λ p. c.in_ok-enter.ensures.values p ∙ c.loop-element.invariant.said p;
     }

@@ -6,5 +6,5 @@ use Rattle.change_list.proofs.change_list.note.Goals as goal
 pub returns-in_default-clause-noted : goal.returns-in_default-clause-noted
 returns-in_default-clause-noted c = λ cs long agrees. record {
   says = λ p. agrees.says p ∙ sym (said-pushed cs c.args.change.now (no-replace c.args.change.now c.in_default.not-Replace) p);
-  numbered = agrees.numbered;
+  tree = agrees.tree;
 }

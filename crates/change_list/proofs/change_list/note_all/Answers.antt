@@ -10,7 +10,7 @@ loop-change-preserved c =
     let more : take (i + 1) xs ≡ take i xs ++ c.change-item.result ∷ [] = take_more xs i c.change-item.result c.loop-change-test.true ∙ ap (λ x. take i xs ++ x ∷ []) (sym c.change-item.is) in
     record {
       number = omega (arith, c.loop-change.invariant.number);
-      numbered = c.in_ok-note.ensures.numbered;
+      tree = c.in_ok-note.ensures.tree;
       agrees = λ cs long start.
           let before = c.loop-change.invariant.agrees cs long start in
           let so_many : length (cs ++ take i xs) ≡ c.loop-change.number = length-append cs (take i xs) ∙ omega (arith, long, length-take i xs, c.loop-change.invariant.number, c.loop-change-test.true) in

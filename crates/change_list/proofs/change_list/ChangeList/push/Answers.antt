@@ -7,7 +7,7 @@ pub invariant_of-self-2 : goal.invariant_of-self-2
 invariant_of-self-2 c =
     record {
       says = λ p. c.self.invariant.says p ∙ sym (said-pushed c.self.inside.changes.items c.args.change c.requires p) ∙ ap (replaced_at p) (sym c.in_ok-push.ensures.items);
-      numbered = c.self.invariant.numbered;
+      tree = c.self.invariant.tree;
     }
 
 pub returns-clause-ok : goal.returns-clause-ok

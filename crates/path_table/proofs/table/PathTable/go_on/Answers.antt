@@ -6,12 +6,12 @@ use Rattle.path_table.proofs.PathTables.{entered-step, entered-grown, grown-way}
 use Rattle.path_table.proofs.table.PathTable.go_on.Goals as goal
 
 pub enter-requires : goal.enter-requires
-enter-requires c =
+enter-requires g c =
     let t = c.args.self.now in
     rw c.requires.end (end-within t c.requires.tree 0 t.way.items (omega arith) c.requires.tree.way)
 
 pub returns-in_err-push-clause-grown : goal.returns-in_err-push-clause-grown
-returns-in_err-push-clause-grown c =
+returns-in_err-push-clause-grown g c =
     let t = c.args.self.now in
     let after = c.enter.new.self in
     let here : c.args.end ≤ size t = rw c.requires.end (end-within t c.requires.tree 0 t.way.items (omega arith) c.requires.tree.way) in
@@ -19,7 +19,7 @@ returns-in_err-push-clause-grown c =
     grown-way t (record t { steps = after }) c.push.new.self grown (subst (IsWay after 0) (sym c.in_err-push.ensures.items) grown.tree.way)
 
 pub returns-clause-grown : goal.returns-clause-grown
-returns-clause-grown c =
+returns-clause-grown g c =
     let t = c.args.self.now in
     let after = c.enter.new.self in
     let slot = c.args.slot in
@@ -30,4 +30,4 @@ returns-clause-grown c =
     grown-way t (record t { steps = after }) c.push.new.self grown (subst (IsWay after 0) (sym c.in_ok-push.ensures.items) (way-push after 0 t.way.items slot below grown.tree.way next))
 
 pub returns-clause-end : goal.returns-clause-end
-returns-clause-end c = rw c.in_ok-push.ensures.items (sym (end-push 0 c.args.self.now.way.items c.args.slot c.in_ok-below.below))
+returns-clause-end g c = rw c.in_ok-push.ensures.items (sym (end-push 0 c.args.self.now.way.items c.args.slot c.in_ok-below.below))

@@ -1,15 +1,14 @@
 use Rattle.std.proofs.Common.{rules}
-use Rattle.path_table.proofs.PathTables.{within-at}
 use Rattle.path_table.proofs.table.PathTable.insert.Goals as goal
 
-pub put-requires-clause-here : goal.put-requires-clause-here
-put-requires-clause-here c = within-at c.enter_path.new.self c.in_ok-cell.ensures.grown.tree c.args.path.now c.in_ok-cell.cell c.in_ok-cell.ensures.leads
+pub set-requires-clause-entered : goal.set-requires-clause-entered
+set-requires-clause-entered g c = (c.args.path.now, c.in_ok-cell.ensures.entered)
 
 pub returns-clause-ok : goal.returns-clause-ok
-returns-clause-ok c = search rules
+returns-clause-ok g c = search rules
 
 pub returns-clause-err : goal.returns-clause-err
-returns-clause-err c = search rules
+returns-clause-err g c = search rules
 
 pub returns-clause-tree : goal.returns-clause-tree
-returns-clause-tree c = search rules
+returns-clause-tree g c = search rules

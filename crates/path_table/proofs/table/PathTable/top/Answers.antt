@@ -2,4 +2,4 @@ use Rattle.std.proofs.Common.{rules}
 use Rattle.path_table.proofs.table.PathTable.top.Goals as goal
 
 pub returns : goal.returns
-returns c = search rules
+returns g c = search rules

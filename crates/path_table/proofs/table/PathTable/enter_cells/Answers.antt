@@ -3,10 +3,10 @@ use Rattle.path_table.specs.inner.Steps.{slots_of, way_end}
 use Rattle.path_table.specs.inner.PathTable.{cell_at}
 use Rattle.path_table.proofs.PathTables.{enter-more, grown-on, grown-cut}
 use Rattle.path_table.proofs.Ways.{way-cut, way-leads}
-use Rattle.path_table.proofs.table.PathTable.enter_path.Goals as goal
+use Rattle.path_table.proofs.table.PathTable.enter_cells.Goals as goal
 
 pub loop-depth-init : goal.loop-depth-init
-loop-depth-init c =
+loop-depth-init g c =
     let t = c.args.self.now in
     let way = t.way.items in
     let path = c.args.path.now in
@@ -23,10 +23,10 @@ loop-depth-init c =
     }
 
 pub returns-in_err-cell-clause-grown : goal.returns-in_err-cell-clause-grown
-returns-in_err-cell-clause-grown c = grown-on c.args.self.now c.loop-depth.self c.go_on.new.self c.loop-depth.invariant.grown c.in_err-cell.ensures.grown
+returns-in_err-cell-clause-grown g c = grown-on c.args.self.now c.loop-depth.self c.go_on.new.self c.loop-depth.invariant.grown c.in_err-cell.ensures.grown
 
 pub loop-depth-preserved : goal.loop-depth-preserved
-loop-depth-preserved c =
+loop-depth-preserved g c =
     let loop = c.loop-depth in
     let made = c.in_ok-cell.ensures in
     record {
