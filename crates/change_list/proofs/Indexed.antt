@@ -5,7 +5,7 @@
 --     added-agrees                                      of an index that is told of the latter
 --     said-replaced, said-deleted                       of a list whose first Replace of an element takes another one up
 --     deleted-agrees                                    of an index that is told of the latter
-use Rattle.std.specs.Prelude.{◌≡◌, ◌⊎◌, ℕ, Bool, true, false, cond, List, [], ◌∷◌, ◌++◌, length, position, unwrap_or, Option, Some, None, option_map, is_some, is_none, refl}
+use Rattle.std.specs.Prelude.{◌≡◌, ℕ, Bool, true, false, cond, List, [], ◌∷◌, ◌++◌, length, position, unwrap_or, Option, Some, None, option_map, is_some, is_none, refl}
 use Rattle.std.specs.List.{list_any, cons_option}
 use Rattle.std.proofs.Common.{ap, sym, subst, ◌∙◌}
 use Rattle.std.proofs.lemmas.Bool.{cases_Bool, cond-true, cond-false}

@@ -2,10 +2,10 @@
 --     no-replace                     a change of another form is no Replace
 --     said-again                     of a list with one more Replace of an element that had one
 --     noted-first, noted-again       of an index that is told of a first one, and of a later one
-use Rattle.std.specs.Prelude.{◌≡◌, ℕ, suc, Bool, true, false, not, cond, ◌||◌, List, [], ◌∷◌, ◌++◌, length, position, Option, Some, None, option_map, is_some, is_none, refl}
+use Rattle.std.specs.Prelude.{◌≡◌, ℕ, suc, Bool, false, cond, ◌||◌, List, [], ◌∷◌, ◌++◌, length, position, Option, Some, None, option_map, is_none, refl}
 use Rattle.std.specs.List.{list_any, cons_option}
 use Rattle.std.proofs.Common.{ap, ap₂, sym, subst, ◌∙◌}
-use Rattle.std.proofs.lemmas.Bool.{cases_Bool, cond-true, cond-false, true≢false}
+use Rattle.std.proofs.lemmas.Bool.{cases_Bool, cond-true, cond-false}
 use Rattle.std.proofs.lemmas.Option.{none-some}
 use Rattle.std.proofs.lemmas.List.Folds.{list_any-append}
 use Rattle.std.proofs.lemmas.List.Elements.{filter_map-append}
@@ -17,7 +17,7 @@ use Rattle.edit_change.specs.declared.change.Change.{Change}
 use Rattle.edit_change.specs.declared.change.Change.TheVariants.{Insert, InsertAll, Replace, ReplaceWithMany, ReplaceAll}
 use Rattle.change_list.specs.declared.change_list.Replaced.{Replaced}
 use Rattle.change_list.specs.inner.ByPath.{is_replace, replacement_at, replacements_at, is_replace_at}
-use Rattle.change_list.specs.inner.Indexing.{replaced_at, as_deleted}
+use Rattle.change_list.specs.inner.Indexing.{replaced_at}
 use Rattle.change_list.proofs.Addresses.{same_path-true}
 use Rattle.change_list.proofs.Indexed.{stated, unsaid, here, there, nothing-said, something-said, added-agrees}
 use Rattle.change_list.proofs.Positions.{position-here, position-after}

@@ -5,10 +5,9 @@
 --     place_of                             the place that an index has for an element
 --     Agrees                               an index that says that of each path
 --     Notes, NotesReplace                  an index that agreed with a list of n changes agrees with it and these after it; where that is a Replace of an element, by nothing or not
-use Rattle.std.specs.Prelude.{◌≡◌, ℕ, Bool, true, cond, List, [], ◌∷◌, ◌++◌, length, position, slice_get, option_and_then, Option, Some, None, option_map, is_none, Result, OnOk}
+use Rattle.std.specs.Prelude.{◌≡◌, ℕ, Bool, true, List, [], ◌∷◌, ◌++◌, length, position, Option, Some, None, option_map, is_none, Result, OnOk}
 use Rattle.std.specs.List.{list_any}
-use Rattle.std.specs.Option.{option_flatten}
-use Rattle.cst_core.specs.Path.{Path, same_path}
+use Rattle.cst_core.specs.Path.{Path}
 use Rattle.cst_core.specs.SyntaxElement.{element_of}
 use Rattle.cst_core.specs.declared.element.SyntaxElement.{SyntaxElement}
 use Rattle.path_table.specs.inner.PathTable.{place_at, value_by_path, IsTree}

@@ -1,6 +1,5 @@
-use Rattle.std.proofs.Common.{◌≡◌, ◌++◌, ◌∷◌, [], Bool, true, false, not, Option, None, Some, is_some, is_none, length, arith, refl, sym, ◌∙◌, ap}
+use Rattle.std.proofs.Common.{◌≡◌, Bool, true, false, not, Option, None, Some, is_some, is_none, length, arith, refl, sym, ◌∙◌, ap}
 use Rattle.cst_core.specs.SyntaxElement.{element_of}
-use Rattle.edit_change.specs.declared.change.Change.TheVariants.{Replace}
 use Rattle.path_table.specs.inner.PathTable.{value_by_path}
 use Rattle.change_list.specs.inner.Indexing.{replaced_at}
 use Rattle.change_list.proofs.Indexed.{added-agrees}

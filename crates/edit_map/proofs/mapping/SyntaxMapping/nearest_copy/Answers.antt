@@ -1,9 +1,8 @@
-use Rattle.std.proofs.Common.{◌≡◌, ◌<◌, ℕ, None, length, take, sym, ◌∙◌, ap, arith}
+use Rattle.std.proofs.Common.{◌≡◌, ◌<◌, ℕ, None, length, take, sym, ◌∙◌, arith}
 use Rattle.std.specs.Map.{lookup}
 use Rattle.std.proofs.lemmas.List.{length-take-le}
 use Rattle.cst_core.specs.Element.{address, element_at}
 use Rattle.edit_map.specs.inner.Climbing.{at_depth, HasNoCopy}
-use Rattle.edit_map.specs.inner.Nearest.{PassesTo}
 use Rattle.edit_map.proofs.Tables.{alike}
 use Rattle.edit_map.proofs.Upwards.{nearest-found, passed-to, passed-all, passed-itself, passed-on}
 use Rattle.edit_map.proofs.mapping.SyntaxMapping.nearest_copy.Goals as goal
