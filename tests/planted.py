@@ -4,8 +4,8 @@ It tries the bugs of these crates, or of all, where a verdict could have changed
 all refused. `--all` tries them whether anything changed or not. `--gate` tries the stale crates and one more, which the commit's hash chooses,
 and records nothing: so a record that was written by hand is found out. `--stale` prints the stale crates.
 
-A check says of each function whether it is proved, so many bugs are tried in one (`rattle check --only F ..`), over what a check of the
-unchanged crate proved, which begins with what `rt check` kept. Each is made in a copy of the function that it edits, which stands beside that one
+A check says of each function whether it is proved, so many bugs are tried in one (`rattle check --only F ..`), over what `rt check` kept of the
+unchanged crate, or a check of it in the gate. Each is made in a copy of the function that it edits, which stands beside that one
 with a copy of its proof, so that none is in the way of another. It is refused if a goal of its copy is not proved. Of one function in eight, which
 its text chooses, a copy without a bug is made too, and has to be proved.
 The others are made in place, at most one of each function in a check: those in a trait's method or in a cycle of calls, and those that were not
@@ -219,6 +219,11 @@ def is_refusal(line):
     return line.startswith("not proved") or "did not prove" in line or "expected a measure" in line
 
 
+def proofs_in(said):
+    """The names of the proofs that a check speaks of."""
+    return re.findall(r"^fn (\S+): ", said, re.M)
+
+
 def first_error(said):
     lines = [line for line in said.splitlines() if re.search(r": error\b", line) or BORROWS in line]
     return (lines or [said[-300:]])[0][:300]
@@ -240,8 +245,8 @@ class Lab:
             for part in ("src", "specs", "proofs"):
                 if (ROOT / "crates" / crate / part).is_dir():
                     shutil.copytree(ROOT / "crates" / crate / part, self.room / "crates" / crate / part)
-        # What was proved of the unchanged crates stands here: the gate proves them beside this.
-        self.proved = ROOT if in_gate else self.room / "libraries"
+        # The names of the proofs of crates that were checked here. The gate proves the crates themselves beside this.
+        self.names = {}
         if owed := needed if in_gate else needed | set(crates):
             self.prove(owed, lanes, in_gate)
 
@@ -264,7 +269,9 @@ class Lab:
             for it in below(crate, self.uses):
                 proved[it].result()
             with room:
-                self.run(["rt", "check", "--jobs", "2"], folder / "crates" / crate)
+                said = self.run(["rt", "check", "--jobs", "2"], folder / "crates" / crate)
+            # It speaks of the libraries below, too, where it builds them.
+            self.names[crate] = [name for name in proofs_in(said) if name.startswith(f"{crate}::")]
 
         with ThreadPoolExecutor(len(lines)) as pool:
             for crate in (re.match(r"\w*", line)[0] for line in lines):
@@ -276,6 +283,7 @@ class Lab:
         ran = subprocess.run(words, cwd=place, env=told, capture_output=True, text=True, check=False)
         if ran.returncode:
             sys.exit(f"planted: the libraries below are not proved\n{ran.stdout[-2000:]}{ran.stderr[-500:]}")
+        return ran.stdout
 
     def check(self, crate, folder, kept, only=()):
         """The status of a check of a crate in a folder, over what an earlier one kept, and what it said."""
@@ -303,13 +311,14 @@ class Trial:
 
     def run(self):
         """What became of each bug, by its name: a verdict, and why."""
-        kept = self.lab.proved / "crates" / self.crate / "out/incremental"
-        if kept.is_dir():
-            linked(kept, self.seed)
-        status, said = self.lab.check(self.crate, self.folder, self.seed)
-        if status:
-            sys.exit(f"planted: {self.crate} is not proved as it is\n{said[-2000:]}")
-        self.names = re.findall(r"^fn (\S+): ", said, re.M)
+        if self.crate in self.lab.names:
+            self.names = self.lab.names[self.crate]
+            linked(self.lab.room / f"libraries/crates/{self.crate}/out/incremental", self.seed)
+        else:
+            status, said = self.lab.check(self.crate, self.folder, self.seed)
+            if status:
+                sys.exit(f"planted: {self.crate} is not proved as it is\n{said[-2000:]}")
+            self.names = proofs_in(said)
         bugs = [Bug(edit, self.folder) for edit in bugs_of(self.crate)]
         found = {bug.name: (BAD, bug.why) for bug in bugs if bug.why}
         copied = [bug for bug in bugs if not bug.why and bug.has_copy()]
@@ -335,7 +344,7 @@ class Trial:
         if not re.search(r"^only=\d+ ", said, re.M):
             half = len(bugs) // 2
             return self.in_copies(bugs[:half]) | self.in_copies(bugs[half:]) if half else set()
-        names = re.findall(r"^fn (\S+): ", said, re.M)
+        names = proofs_in(said)
         verdicts = [(bug, verdict(said, it.proofs(names))) for bug, it in copies]
         for kind, why in (it for bug, it in verdicts if not bug):
             if kind != PROVED:
