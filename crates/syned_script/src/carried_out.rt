@@ -80,12 +80,16 @@ pub fn carry_out_for(alloc: Global, dialect: Dialect, script: &str) -> Result<Ca
 pub fn record_script(alloc: Global, dialect: Dialect, script: &str) -> Option<Recorded> {
     let mut session = Session::new(alloc, dialect);
     go_through(alloc, &mut session, script).ok()?;
+    what_is_recorded(session.into_parts())
+}
+
+fn what_is_recorded(parts: Result<Parts, Stop>) -> Option<Recorded> {
     let Parts {
         editing: Editing { editor, order, .. },
         ids,
         words,
         ..
-    } = session.into_parts().ok()?;
+    } = parts.ok()?;
     Some(Recorded {
         editor,
         order,

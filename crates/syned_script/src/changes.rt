@@ -21,16 +21,33 @@ pub(crate) fn lines_of_changes(
     script: &str,
 ) -> Result<Vec<usize>, AllocError> {
     let mut session = Session::new(alloc, dialect);
+    carried_out_lines(alloc, &mut session, script)
+}
+
+fn carried_out_lines(
+    alloc: Global,
+    session: &mut Session,
+    script: &str,
+) -> Result<Vec<usize>, AllocError> {
+    let lines = lines_in(alloc, script)?;
     let mut numbers = Vec::new(alloc);
-    for (index, text) in lines_in(alloc, script)?.iter().enumerate() {
-        let Ok(false) = carry_out_line(alloc, &mut session, text) else {
+    for (index, text) in lines.iter().enumerate() {
+        if !is_carried_out(alloc, session, text) {
             return Ok(numbers);
-        };
-        if session.count() > numbers.as_slice().len() {
+        }
+        if session.count() > numbers.len() {
             numbers.push(index.saturating_add(1))?;
         }
     }
     Ok(numbers)
+}
+
+// Carries the line out. Answers whether the script goes on after it.
+fn is_carried_out(alloc: Global, session: &mut Session, text: &str) -> bool {
+    match carry_out_line(alloc, session, text) {
+        Ok(is_finish) => !is_finish,
+        Err(_) => false,
+    }
 }
 
 /// The first number of a script's order that should not be there, or else the first that is missing.
