@@ -246,7 +246,7 @@ def compare_planted_bugs():
 
 
 def compare_count():
-    """The number of planted bugs never falls, in the whole history of the count; one that went has a line that says why."""
+    """The number of planted bugs, which README says, never falls, in the whole history of the count; one that went has a line that says why."""
     there = {f"{crate}/{bug.stem}" for crate in planted.crates_with_bugs() for bug in planted.bugs_of(crate)}
     record = planted.RECORD.read_text()
     gone = set(re.findall(r"^gone (\S+): \S", record, re.M))
@@ -255,6 +255,8 @@ def compare_count():
     most = max(map(int, re.findall(r"^\+?planted (\d+)$", f"{past}\n{record}", re.M)))
     if len(there | gone) != most or there & gone:
         wrong.append(f"tests/planted.txt: {len(there)} planted bugs are there and {len(gone)} are gone, of {most}")
+    if f"refuse {len(there)} planted bugs" not in (ROOT / "README.md").read_text():
+        wrong.append(f"README.md does not say that there are {len(there)} planted bugs")
 
 
 def main(words):
