@@ -9,9 +9,9 @@ unchanged crate, or a check of it in the gate. Each is made in a copy of the fun
 with a copy of its proof, so that none is in the way of another. It is refused if a goal of its copy is not proved. Of one function in eight, which
 its text chooses, a copy without a bug is made too, and has to be proved.
 The others are made in place, at most one of each function in a check: those in a trait's method or in a cycle of calls, and those that were not
-refused in a copy. One whose function is only said to call another that is not proved waits for the next check. A bug in no function, or in
-several, and one that comes out proved, is tried alone, by a check of the whole crate. A bug that does not compile, or that the borrow checker
-refuses for its form, shows nothing, and fails.
+refused in a copy. One of several functions is refused if one of them is not proved, and one of a constant if a function is not that names it. One
+whose function is only said to call another that is not proved waits for the next check. A bug in no function, and one that comes out proved, is
+tried alone, by a check of the whole crate. A bug that does not compile, or that the borrow checker refuses for its form, shows nothing, and fails.
 
 A crate is stale if the kit changed, its bugs, its sources or definitions, or the definitions and clauses of the crates below it.
 """
@@ -94,7 +94,9 @@ def write(crates):
 # Bugs, and the functions that they edit.
 
 HEAD = re.compile(r"^(?:pub )?(?:impl(?:<[^>]*>)? (?:(?P<of>[^{\n]*?) for )?|trait )&?(?:\w+::)*(?P<type>\w+)", re.M)
-FUNCTION = re.compile(r"^(?:(?P<indent> *)#\[cycle\((?P<cycle>\w+)\)\]\n)?(?P<inside> *)(?:pub(?:\([^)]*\))? )?fn (?P<name>\w+)", re.M)
+FUNCTION = re.compile(
+    r"""^(?:(?P<indent> *)#\[cycle\((?P<cycle>\w+)\)\]\n)?(?P<inside> *)(?:pub(?:\([^)]*\))? )?(?:extern "C" )?fn (?P<name>\w+)""", re.M
+)
 
 
 class Function:
@@ -167,12 +169,18 @@ def function_at(file, text, at):
     return begun[-1] if begun and at <= begun[-1].end else None
 
 
+def functions_with(name, folder):
+    """The functions of a crate that name a constant."""
+    files = [(f"{file.relative_to(folder)}", file.read_text()) for file in sorted((folder / "src").rglob("*.rt"))]
+    return [it for file, text in files for it in functions_of(file, text) if re.search(rf"\b{name}\b", it.text)]
+
+
 class Bug:
     """A planted bug: the texts that it exchanges, one after the other, and the functions in which these stand; or why it can't be made."""
 
     def __init__(self, edit, folder):
         self.name, self.edits, self.functions, self.why = edit.stem, [], {}, "it exchanges nothing"
-        texts, file, old = {}, "", None
+        texts, file, old, self.naming = {}, "", None, {}
         for line in edit.read_text().splitlines():
             word, _, rest = line.partition(": ")
             if word == "file" and rest.startswith("src/") and (folder / rest).is_file():
@@ -183,6 +191,7 @@ class Bug:
             elif word in ("new", "new:") and old != rest and texts[file].count(old or " ") == 1:
                 function = function_at(file, texts[file], texts[file].index(old))
                 self.functions.setdefault(function and function.key(), function)
+                self.naming |= {it.key(): it for name in re.findall(r"\bconst (\w+)", old) for it in functions_with(name, folder)}
                 texts[file] = texts[file].replace(old, rest)
                 self.edits.append((file, old, rest))
                 self.why = None
@@ -196,9 +205,13 @@ class Bug:
         functions = [*self.functions.values()]
         return functions[0] if len(functions) == 1 else None
 
+    def tried(self):
+        """The functions of which one has to be refused: those that it edits, and those that name a constant that it edits."""
+        return [it for it in (self.functions | self.naming).values() if it]
+
     def proofs(self, names):
-        """The proofs that have to fail, if the bug edits one function."""
-        return self.function.proofs(names) if self.function else set()
+        """The proofs of which one has to fail."""
+        return {name for it in self.tried() for name in it.proofs(names)}
 
     def has_copy(self):
         """Whether it is an edit of one function of which a copy can stand beside it."""
@@ -415,14 +428,14 @@ def dealt(bugs):
     """Batches with at most one bug of each function, and of each cycle of calls, which has one proof."""
     batches = []
     for bug in bugs:
-        (own,) = bug.functions.values()
+        own = {unit for it in bug.tried() for unit in it.units()}
         for taken, batch in batches:
-            if not taken & own.units():
-                taken |= own.units()
+            if not taken & own:
+                taken |= own
                 batch.append(bug)
                 break
         else:
-            batches.append((own.units(), [bug]))
+            batches.append((own, [bug]))
     return [batch for _, batch in batches]
 
 
