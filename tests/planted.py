@@ -214,9 +214,9 @@ class Bug:
         return {name for it in self.tried() for name in it.proofs(names)}
 
     def has_copy(self):
-        """Whether it is an edit of one function of which a copy can stand beside it."""
+        """Whether it is an edit of one function of which a copy can stand beside it, which no function for C can."""
         it = self.function
-        return bool(it and not it.cycle and it.owner == it.type and it.with_edits(self.edits))
+        return bool(it and not it.cycle and it.owner == it.type and "extern" not in it.text.partition("fn ")[0] and it.with_edits(self.edits))
 
 
 # How bugs are tried.
