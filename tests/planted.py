@@ -6,10 +6,10 @@ and records nothing: so a record that was written by hand is found out. `--stale
 
 A check says of each function whether it is proved, so many bugs are tried in one (`rattle check --only F ..`), over what `rt check` kept of the
 unchanged crate, or a check of it in the gate. Each is made in a copy of the function that it edits, which stands beside that one
-with a copy of its proof, so that none is in the way of another. It is refused if a goal of its copy is not proved. Of one function in eight, which
-its text chooses, a copy without a bug is made too, and has to be proved.
-The others are made in place, at most one of each function in a check: those in a trait's method or in a cycle of calls, and those that were not
-refused in a copy. One of several functions is refused if one of them is not proved, and one of a constant if a function is not that names it. One
+with a copy of its proof, so that none is in the way of another. It is refused if a goal of its copy is not proved. Of one function in each check,
+which the commit chooses, a copy without a bug is made too, and has to be proved.
+The others are made in place, at most one of each function in a check: those in a trait's method or in a cycle of calls, and those that do not fit
+beside others. One of several functions is refused if one of them is not proved, and one of a constant if a function is not that names it. One
 whose function is only said to call another that is not proved waits for the next check. A bug in no function, and one that comes out proved, is
 tried alone, by a check of the whole crate. A bug that does not compile, or that the borrow checker refuses for its form, shows nothing, and fails.
 
@@ -80,6 +80,12 @@ def recorded():
     return head, dict(line.split() for line in lines if line not in head)
 
 
+def drawn(names):
+    """These names in an order that the commit's hash chooses."""
+    commit = subprocess.run(["git", "rev-parse", "HEAD"], cwd=ROOT, capture_output=True, text=True, check=True).stdout
+    return sorted(names, key=lambda it: hashlib.sha256(f"{commit} {it}".encode()).digest())
+
+
 def stale():
     """The crates whose bugs were not refused over what is there."""
     return [crate for crate in crates_with_bugs() if recorded()[1].get(crate) != key(crate)]
@@ -110,7 +116,8 @@ class Function:
         self.name, self.cycle, self.text = found["name"], found["cycle"], text[self.start : self.end]
         self.module = "::".join(part for part in file.removeprefix("src/").removesuffix(".rt").split("/") if part not in ("lib", "main"))
         self.type = head[0]["type"] if head else ""
-        self.owner = self.type + "".join(re.findall(r"\w+", head[0]["of"] or "")) if head else ""
+        of = re.sub(r"\w+::", "", head[0]["of"] or "") if head else ""
+        self.owner = self.type + "".join(re.findall(r"\w+", of))
 
     def key(self):
         return self.module, self.owner, self.name
@@ -138,8 +145,7 @@ class Function:
 
     def copied(self, number, edits, folder, name):
         """A copy of this function, by the name of its proof, under a name of its own, with these edits. The files of its proof are copied in the folder."""
-        one = copy.copy(self)
-        one.name = f"{self.name}_planted_{number}"
+        one = self.named(f"{self.name}_planted_{number}")
         one.text = self.with_edits(edits).replace(f"fn {self.name}", f"fn {one.name}", 1)
         crate, *path = name.split("::")
         proof = Path(folder, "proofs", *path)
@@ -148,6 +154,12 @@ class Function:
             old, new = (".".join(["Rattle", crate, "proofs", *path[:-1], last, ""]) for last in (self.name, one.name))
             for file in proof.with_name(one.name).rglob("*.antt"):
                 file.write_text(file.read_text().replace(old, new))
+        return one
+
+    def named(self, name):
+        """A function beside this one, of another name."""
+        one = copy.copy(self)
+        one.name = name
         return one
 
     def units(self):
@@ -180,7 +192,7 @@ class Bug:
 
     def __init__(self, edit, folder):
         self.name, self.edits, self.functions, self.why = edit.stem, [], {}, "it exchanges nothing"
-        texts, file, old, self.naming = {}, "", None, {}
+        texts, file, old, self.besides = {}, "", None, []
         for line in edit.read_text().splitlines():
             word, _, rest = line.partition(": ")
             if word == "file" and rest.startswith("src/") and (folder / rest).is_file():
@@ -189,9 +201,12 @@ class Bug:
             elif word == "old" and file:
                 old = rest
             elif word in ("new", "new:") and old != rest and texts[file].count(old or " ") == 1:
-                function = function_at(file, texts[file], texts[file].index(old))
+                at = texts[file].index(old)
+                function = function_at(file, texts[file], at)
                 self.functions.setdefault(function and function.key(), function)
-                self.naming |= {it.key(): it for name in re.findall(r"\bconst (\w+)", old) for it in functions_with(name, folder)}
+                constants = re.findall(r"\bconst (\w+)", old if function else texts[file][: at + len(old)])[-1:]
+                self.besides += [it for name in constants for it in functions_with(name, folder)]
+                self.besides += [function.named(name) for name in re.findall(r"\bfn (\w+)", rest) if function and f"fn {name}" not in old]
                 texts[file] = texts[file].replace(old, rest)
                 self.edits.append((file, old, rest))
                 self.why = None
@@ -206,8 +221,8 @@ class Bug:
         return functions[0] if len(functions) == 1 else None
 
     def tried(self):
-        """The functions of which one has to be refused: those that it edits, and those that name a constant that it edits."""
-        return [it for it in (self.functions | self.naming).values() if it]
+        """The functions of which one has to be refused: those that it edits or adds, and those that name a constant that it edits."""
+        return [*({it.key(): it for it in self.besides} | {it.key(): it for it in self.functions.values() if it}).values()]
 
     def proofs(self, names):
         """The proofs of which one has to fail."""
@@ -223,7 +238,7 @@ class Bug:
 
 BORROWS = "the borrow checker does not cover"
 # How many bugs are made in copies in one check.
-MOST_COPIES = 60
+MOST_COPIES = 120
 REFUSED, LATER, PROVED, BAD = "refused", "later", "let through", "bad"
 
 
@@ -335,10 +350,14 @@ class Trial:
         bugs = [Bug(edit, self.folder) for edit in bugs_of(self.crate)]
         found = {bug.name: (BAD, bug.why) for bug in bugs if bug.why}
         copied = [bug for bug in bugs if not bug.why and bug.has_copy()]
+        tried = {}
         for told in self.pool.map(self.in_copies, [copied[at : at + MOST_COPIES] for at in range(0, len(copied), MOST_COPIES)]):
-            found |= {name: (REFUSED, "in a copy") for name in told}
-        waiting = [bug for bug in bugs if bug.name not in found and bug.proofs(self.names)]
-        alone = [bug for bug in bugs if bug.name not in found and not bug.proofs(self.names)]
+            tried |= told
+        found |= {name: (REFUSED, "in a copy") for name, kind in tried.items() if kind == REFUSED}
+        left = [bug for bug in bugs if bug.name not in found]
+        # Where the function is proved with its bug, another one has to refuse it.
+        alone = [bug for bug in left if tried.get(bug.name) == PROVED or not bug.proofs(self.names)]
+        waiting = [bug for bug in left if bug not in alone]
         while waiting:
             told = {name: it for batch in self.pool.map(self.batch, dealt(waiting)) for name, it in batch.items()}
             found |= {name: it for name, it in told.items() if it[0] in (REFUSED, BAD)}
@@ -350,26 +369,26 @@ class Trial:
         return found | dict(self.pool.map(self.whole, alone))
 
     def in_copies(self, bugs):
-        """The names of those of these bugs that one check refuses in copies of their functions, if it proves the copies without a bug."""
+        """What one check says of these bugs in copies of their functions, by their names, if it proves the copy without a bug."""
         with tempfile.TemporaryDirectory(dir=self.lab.room) as folder:
             copies, only = self.plant_copies(bugs, f"{folder}/crate")
             said = self.check(folder, sorted(only))[1]
         if not re.search(r"^only=\d+ ", said, re.M):
             half = len(bugs) // 2
-            return self.in_copies(bugs[:half]) | self.in_copies(bugs[half:]) if half else set()
+            return self.in_copies(bugs[:half]) | self.in_copies(bugs[half:]) if half else {}
         names = proofs_in(said)
         verdicts = [(bug, verdict(said, it.proofs(names))) for bug, it in copies]
         for kind, why in (it for bug, it in verdicts if not bug):
             if kind != PROVED:
                 sys.exit(f"planted: {self.crate}: a copy of a function is not proved: {why}")
-        return {bug.name for bug, (kind, _) in verdicts if bug and kind == REFUSED}
+        return {bug.name: kind for bug, (kind, _) in verdicts if bug}
 
     def plant_copies(self, bugs, folder):
-        """Makes a copy of the crate in which copies of functions stand, with these bugs or without: each with its bug, and the names of their proofs."""
+        """Makes a copy of the crate in which copies of functions stand, with these bugs and one without: each with its bug, and the names of their proofs."""
         shutil.copytree(self.folder, folder)
-        unaltered = {it.function.key(): it.function for it in bugs if hashlib.sha256(it.function.text.encode()).digest()[0] % 8 == 0}
+        edited = {f"{it.function.key()}": it.function for it in bugs}
         copies, only, texts = [], set(), {}
-        for number, (bug, of) in enumerate([*((bug, bug.function) for bug in bugs), *((None, it) for it in unaltered.values())]):
+        for number, (bug, of) in enumerate([*((bug, bug.function) for bug in bugs), (None, edited[drawn(edited)[0]])]):
             name = next(it for it in of.proofs(self.names) if it.endswith(f"::{of.name}"))
             copies.append((bug, of.copied(number, bug.edits if bug else [], folder, name)))
             only.add(name.removesuffix(of.name) + copies[-1][1].name)
@@ -472,9 +491,7 @@ def main(words):
     if "--all" not in options:
         crates = [crate for crate in crates if crate in stale()]
     if "--gate" in options:
-        commit = subprocess.run(["git", "rev-parse", "HEAD"], cwd=ROOT, capture_output=True, text=True, check=True).stdout
-        others = set(crates_with_bugs()) - set(crates)
-        crates += sorted(others, key=lambda it: hashlib.sha256(f"{commit} {it}".encode()).digest())[:1]
+        crates += drawn(set(crates_with_bugs()) - set(crates))[:1]
     if "--stale" in options or not crates:
         print(*crates or ["planted: nothing changed"], sep="\n")
         return 0

@@ -1,4 +1,4 @@
-use Rattle.std.proofs.Common.{◌≡◌, ◌++◌, ℕ, List, [], ◌∷◌, map, ap, sym, ◌∙◌, refl, inl, inr, append-nil}
+use Rattle.std.proofs.Common.{◌≡◌, ◌++◌, ℕ, List, [], ◌∷◌, map, ap, sym, ◌∙◌, refl, inl, inr, append-nil, rules}
 use Rattle.std.proofs.lemmas.List.{nil_from_length}
 use Rattle.cst_core.specs.Path.{Path}
 use Rattle.edit_change.specs.Topmost.{paths_of}
@@ -29,3 +29,6 @@ returns c =
       | inr e ↦ ap (λ us. numbered_paths (map (λ r. r.1) rs) (path_lists us)) (nil_from_length ls (sym last.ok.0 ∙ e.1.0)) ∙ none-numbered (map (λ r. r.1) rs)
     ] in
     sym (ap (λ ms. before ++ ms) none ∙ append-nil before) ∙ c.loop-registration.invariant
+
+pub loop-path-init : goal.loop-path-init
+loop-path-init c = search rules

@@ -1,4 +1,4 @@
-use Rattle.std.proofs.Common.{◌≡◌, ◌+◌, ℕ, ◌++◌, [], map, take, drop, suc, refl, ap, ap₂, sym, subst, ◌∙◌, arith}
+use Rattle.std.proofs.Common.{◌≡◌, ◌+◌, ℕ, ◌++◌, [], map, take, drop, suc, refl, ap, ap₂, sym, subst, ◌∙◌, arith, rules}
 use Rattle.std.specs.List.{AllByRecursion}
 use Rattle.std.proofs.lemmas.List.{take-append-drop}
 use Rattle.edit_change.proofs.AlteredNodes.{if_ok-map}
@@ -69,3 +69,6 @@ returns-clause-entered c =
         found = h.found ∙ ap (λ ms. marks_of c.args.walk.now.found.items ++ map (λ n. (n, c.open_node.new.walk.path.items)) (marks_at ms [])) seen;
       };
     }) c.open_node.ensures.opened
+
+pub returns-clause-path : goal.returns-clause-path
+returns-clause-path c = search rules

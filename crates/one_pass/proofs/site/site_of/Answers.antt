@@ -38,3 +38,9 @@ returns-in-Over c =
     let some : has_parent (of_formed a) ≡ true = search rules in
     let short : length a.path < 2 = search (arith, rules) in
     (c.if-slot-count.false, subst (λ (b : FormedAim). IsRun (get_or a.path 0 0) c.in-Over.count b.path b.form) (seen-lowered c.args.depth c.args.aim.now c.path_from.result.now c.path_from.ensures) (is-run c.in-Over.count a c.in-Over.is some c.in-len1-up.len_at_least short))
+
+pub returns-in_default : goal.returns-in_default
+returns-in_default c = search rules
+
+pub returns-in-AfterElement : goal.returns-in-AfterElement
+returns-in-AfterElement c = search rules

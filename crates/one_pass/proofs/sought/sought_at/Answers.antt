@@ -1,4 +1,5 @@
-use Rattle.std.proofs.Common.{◌≡◌, ◌≤◌, ℕ, true, false, [], List, ◌++◌, map, take, drop, length, rules, ap, ap₂, sym, subst, ◌∙◌}
+use Rattle.std.proofs.Common.{◌≡◌, ◌≤◌, ℕ, true, false, [], List, ◌++◌, map, take, drop, length, rules, ap, ap₂, sym, subst, ◌∙◌, arith}
+use Rattle.std.proofs.lemmas.Grind.{common_steps}
 use Rattle.std.proofs.lemmas.List.{append-nil, at_drop_all}
 use Rattle.std.specs.Prelude.{filter}
 use Rattle.std.specs.List.Sorted.{IsPartitionedBy, IsPartitionPoint}
@@ -35,3 +36,6 @@ returns c =
     let all = ap (take end) rest ∙ sym whole ∙ ap (λ q. filter (λ (r : Registered). begins_with q (place_of r)) xs) at in
     let depth : length c.of-top.result.mark.path.now ≡ length a.path = ap (λ p. length p.1.path) c.of-top.ensures in
     seen-all (marks_seen 0 c.loop-one.sought.items) _ _ c.loop-one.one-index c.loop-one-test.false c.loop-one.invariant ∙ ap₂ (λ k rs. map (λ (r : Registered). (r.mark.number, drop k r.mark.path.now)) rs) depth all
+
+pub loop-one-preserved : goal.loop-one-preserved
+loop-one-preserved c = grind (arith, common_steps)

@@ -1,4 +1,5 @@
-use Rattle.std.proofs.Common.{◌≡◌, ◌++◌, List, map, length, All, Some, ap, sym, subst, ◌∙◌, rules}
+use Rattle.std.proofs.Common.{◌≡◌, ◌++◌, List, map, length, All, Some, ap, sym, subst, ◌∙◌, rules, arith}
+use Rattle.std.proofs.lemmas.Grind.{common_steps}
 use Rattle.std.specs.List.{zip}
 use Rattle.std.specs.List.Sorted.{IsNonDecreasing}
 use Rattle.std.proofs.lemmas.List.{append-nil, nil_from_length}
@@ -40,3 +41,6 @@ returns c a =
     let there = subst (All leads) (sym paths) (all-lead leads xs ys c.sort_by_key.ensures.permutation c.requires) in
     let stable = stable-paths xs ys c.sort_by_key.ensures.permutation (c.sort_by_key.ensures.stable (λ n. n.0) (answers_always _ _ _ (λ f x r f' k. search rules))) a in
     ap (λ ns. map (λ e. Some e) (found_for (zip ns es) a)) numbers ∙ lead-by root ys es (c.in_ok-elements.ensures there ∙ ap (map (syntax_at root)) paths) a ∙ ap (map (syntax_at root)) stable
+
+pub loop-annotation-preserved : goal.loop-annotation-preserved
+loop-annotation-preserved c = grind (arith, common_steps)
