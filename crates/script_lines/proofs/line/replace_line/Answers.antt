@@ -1,4 +1,4 @@
-use Rattle.std.proofs.Common.{codes, sym, subst}
+use Rattle.std.proofs.Common.{codes, sym, subst, rules}
 use Rattle.script_lines.specs.Line.{Each, IsRef, words}
 use Rattle.script_lines.specs.inner.Taken.{Begins}
 use Rattle.script_lines.proofs.OneCommand.{only-replace}
@@ -14,3 +14,6 @@ pub returns-in_err-payload : goal.returns-in_err-payload
 returns-in_err-payload c = λ lang. err-read lang (Each IsRef (words c.reference.new.self.rest.now)) (codes "replace") (words c.args.fields.now.rest.now) c.from_residual-in_err-payload.result _ c.from_residual-in_err-payload.ensures.1 c.in_err-payload.ensures.bad (λ line is l said.
     let says = only-replace lang line _ is l said in
     (says.payload, subst (λ fs. Each IsRef fs says.payload) (sym (behind-taken IsRef _ _ _ says.field _ c.in_ok-target.ensures.ok says.is)) says.referred))
+
+pub returns : goal.returns
+returns c = search rules

@@ -22,3 +22,12 @@ invariant_of-self-2 c =
     let pushed : c.push.new.self.items ≡ gs ++ given ∷ [] = subst (λ r. c.push.new.self.items ≡ (if is_ok r then c.reserve.new.self.items ++ given ∷ [] else c.reserve.new.self.items)) c.unwrap.ensures c.push.ensures.items ∙ ap (λ l. l ++ given ∷ []) c.reserve.ensures.items in
     kept_after old new gs c.push.new.self.items given c.self.invariant (rw c.self.view_is unnamed) spelled (rw c.self.view_is free) pushed
     (subst (λ b. (q : List ℕ) → get_by_text new q ≡ update bytes_eq (get_by_text old) b (Some c.args.kind) q) (c.in_ok-key.ensures.ok ∙ sym text) put)
+
+pub returns-then-is_some-clause-misspelled : goal.returns-then-is_some-clause-misspelled
+returns-then-is_some-clause-misspelled c = search rules
+
+pub returns-then-is_some-clause-named : goal.returns-then-is_some-clause-named
+returns-then-is_some-clause-named c = search rules
+
+pub returns-then-is_some-clause-taken : goal.returns-then-is_some-clause-taken
+returns-then-is_some-clause-taken c = search rules

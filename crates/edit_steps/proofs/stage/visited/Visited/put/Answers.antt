@@ -1,4 +1,5 @@
 use Rattle.std.proofs.Common.{◌<◌, ◌+◌, arith, length, ◌∙◌}
+use Rattle.std.proofs.lemmas.Grind.{common_steps}
 use Rattle.std.specs.Prelude.{slice_set}
 use Rattle.std.proofs.lemmas.List.{get_or-set_other, get_or_default}
 use Rattle.edit_steps.specs.inner.Widths.{index_of, count_of, width_in}
@@ -36,3 +37,6 @@ invariant_of-self-in_default c =
     let here = get_or-set_other ws first i (c.index_mut-2.result.now + c.args.width) 1 (omega (arith, less)) in
     omega (arith, here, l.invariant.taken i, gone_before first l.slot i less)) l.self-inside.slot l.invariant.ahead in
     l.invariant.before ∙ upto
+
+pub returns-in_default-clause-held : goal.returns-in_default-clause-held
+returns-in_default-clause-held c = grind (arith, common_steps)
