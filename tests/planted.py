@@ -257,9 +257,16 @@ def first_error(said):
     return (lines or [said[-300:]])[0][:300]
 
 
+def link(one, other):
+    try:
+        os.link(one, other)
+    except OSError:
+        shutil.copy2(one, other)
+
+
 def linked(folder, to):
     """A copy by links: a check replaces what it kept, and writes into no such file."""
-    shutil.copytree(folder, to, copy_function=lambda one, other: os.link(one, other) if one.endswith(".oantt") else shutil.copy2(one, other))
+    shutil.copytree(folder, to, copy_function=lambda one, other: (link if one.endswith(".oantt") else shutil.copy2)(one, other))
 
 
 class Lab:
@@ -273,56 +280,69 @@ class Lab:
             for part in ("src", "specs", "proofs"):
                 if (ROOT / "crates" / crate / part).is_dir():
                     shutil.copytree(ROOT / "crates" / crate / part, self.room / "crates" / crate / part)
-        # The names of the proofs of crates that were checked here. The gate proves the crates themselves beside this.
-        self.names = {}
-        if owed := needed if in_gate else needed | set(crates):
-            self.prove(owed, lanes, in_gate)
+            kept = ROOT / "crates" / crate / "out/incremental"
+            if kept.is_dir() and not in_gate:
+                linked(kept, self.seed(crate))
+        # What the checks of unchanged crates said.
+        self.said = {}
+        if in_gate and needed:
+            self.prove_anew(needed)
+        elif needed:
+            self.build(needed)
 
-    def prove(self, crates, lanes, in_gate):
-        """Has these crates proved. In the gate `rt ci` takes what it proves there; else `rt check` takes what earlier checks kept, and leaves what the
-        checks of bugs begin with. Crates that don't wait for each other are proved side by side, with few jobs each: every job reads the crate."""
+    def seed(self, crate):
+        """What is kept of a check of the unchanged crate."""
+        return self.room / "seeds" / crate
+
+    def rlib(self, crate):
+        return self.room / f"libraries/crates/{crate}/out/rlib/{crate}.rlib"
+
+    def prove_anew(self, crates):
+        """Has `rt ci` prove these libraries, or take what it has proved on this machine. Without RT_JOBS it takes several processors for a proof that
+        no other waits beside."""
         folder = self.room / "libraries"
         for crate in crates:
             shutil.copytree(self.room / "crates" / crate, folder / "crates" / crate)
         shutil.copy(ROOT / "HANDLES", folder)
         lines = [line for line in (ROOT / "crates.txt").read_text().splitlines() if re.match(r"\w*", line)[0] in crates]
         (folder / "crates.txt").write_text("".join(f"{line}\n" for line in lines))
-        if in_gate:
-            # Without RT_JOBS a proof that no other waits beside takes several processors.
-            self.run(["rt", "ci"], folder, {name: it for name, it in os.environ.items() if name != "RT_JOBS"})
-            return
-        proved, room = {}, threading.Semaphore(max(1, lanes // 2))
-
-        def prove_one(crate):
-            for it in below(crate, self.uses):
-                proved[it].result()
-            with room:
-                said = self.run(["rt", "check", "--jobs", "2"], folder / "crates" / crate)
-            # It speaks of the libraries below, too, where it builds them.
-            self.names[crate] = [name for name in proofs_in(said) if name.startswith(f"{crate}::")]
-
-        with ThreadPoolExecutor(len(lines)) as pool:
-            for crate in (re.match(r"\w*", line)[0] for line in lines):
-                proved[crate] = pool.submit(prove_one, crate)
-            for it in proved.values():
-                it.result()
-
-    def run(self, words, place, told=None):
-        ran = subprocess.run(words, cwd=place, env=told, capture_output=True, text=True, check=False)
+        told = {name: it for name, it in os.environ.items() if name != "RT_JOBS"}
+        ran = subprocess.run(["rt", "ci"], cwd=folder, env=told, capture_output=True, text=True, check=False)
         if ran.returncode:
             sys.exit(f"planted: the libraries below are not proved\n{ran.stdout[-2000:]}{ran.stderr[-500:]}")
-        return ran.stdout
 
-    def check(self, crate, folder, kept, only=()):
-        """The status of a check of a crate in a folder, over what an earlier one kept, and what it said."""
-        words = ["rattle", "check", "--crate-name", crate, "src/lib.rt", "--links", f"{crate}=", "--jobs", "1", "--incremental", str(kept)]
+    def build(self, crates):
+        """Builds these libraries over what `rt check` kept of them, side by side where they don't wait for each other."""
+        built = {}
+
+        def build_one(crate):
+            for it in below(crate, self.uses):
+                built[it].result()
+            self.rlib(crate).parent.mkdir(parents=True)
+            self.prove("build", crate, ["-o", str(self.rlib(crate))])
+
+        with ThreadPoolExecutor(len(self.uses)) as pool:
+            for crate in self.uses:
+                if crate in crates:
+                    built[crate] = pool.submit(build_one, crate)
+            for it in built.values():
+                it.result()
+
+    def prove(self, command, crate, more=()):
+        """Proves an unchanged crate, over what is kept of it."""
+        status, self.said[crate] = self.rattle(command, crate, self.room / "crates" / crate, self.seed(crate), more)
+        if status:
+            sys.exit(f"planted: {crate} is not proved as it is\n{self.said[crate][-2000:]}")
+
+    def rattle(self, command, crate, folder, kept, more=()):
+        """The status of a check or a build of a crate in a folder, over what an earlier one kept, and what it said."""
+        words = ["rattle", command, "--crate-name", crate, "src/lib.rt", "--links", f"{crate}=", "--jobs", "1", "--incremental", str(kept)]
         for name in ["std", *(it for it in self.uses[crate] if it not in self.uses)]:
             words += ["--extern", f"{name}={self.kit}/rlibs/{name}.rlib"]
         for name in below(crate, self.uses):
-            rlib = self.room / f"libraries/crates/{name}/out/rlib"
-            words += ["--extern", f"{name}={rlib}/{name}.rlib"] * (name in self.uses[crate]) + ["-L", f"dependency={rlib}"]
+            words += ["--extern", f"{name}={self.rlib(name)}"] * (name in self.uses[crate]) + ["-L", f"dependency={self.rlib(name).parent}"]
         words += ["-L", f"dependency={self.kit}/rlibs", "--antt-project", f"{self.kit}/rattle/logic/antt-project.json"]
-        words += ["--logic-built", f"{self.kit}/logic_built", *(word for it in only for word in ("--only", it))]
+        words += ["--logic-built", f"{self.kit}/logic_built", *more]
         if re.search(rf"^{crate} staticlib:", (ROOT / "crates.txt").read_text(), re.M):
             words += ["--crate-type", "staticlib"]
         with self.lanes:
@@ -335,18 +355,13 @@ class Trial:
 
     def __init__(self, lab, crate, pool):
         self.lab, self.crate, self.pool, self.checks = lab, crate, pool, 0
-        self.folder, self.seed = lab.room / "crates" / crate, lab.room / "seeds" / crate
+        self.folder, self.seed = lab.room / "crates" / crate, lab.seed(crate)
 
     def run(self):
         """What became of each bug, by its name: a verdict, and why."""
-        if self.crate in self.lab.names:
-            self.names = self.lab.names[self.crate]
-            linked(self.lab.room / f"libraries/crates/{self.crate}/out/incremental", self.seed)
-        else:
-            status, said = self.lab.check(self.crate, self.folder, self.seed)
-            if status:
-                sys.exit(f"planted: {self.crate} is not proved as it is\n{said[-2000:]}")
-            self.names = proofs_in(said)
+        if self.crate not in self.lab.said:
+            self.lab.prove("check", self.crate)
+        self.names = proofs_in(self.lab.said[self.crate])
         bugs = [Bug(edit, self.folder) for edit in bugs_of(self.crate)]
         found = {bug.name: (BAD, bug.why) for bug in bugs if bug.why}
         copied = [bug for bug in bugs if not bug.why and bug.has_copy()]
@@ -440,7 +455,7 @@ class Trial:
     def check(self, folder, only=()):
         self.checks += 1
         linked(self.seed, f"{folder}/kept")
-        return self.lab.check(self.crate, f"{folder}/crate", f"{folder}/kept", only)
+        return self.lab.rattle("check", self.crate, f"{folder}/crate", f"{folder}/kept", [word for it in only for word in ("--only", it)])
 
 
 def dealt(bugs):
