@@ -5,13 +5,14 @@ all refused. `--all` tries them whether anything changed or not. `--gate` tries 
 and records nothing: so a record that was written by hand is found out. `--stale` prints the stale crates.
 
 A check says of each function whether it is proved, so many bugs are tried in one (`rattle check --only F ..`), over what `rt check` kept of the
-unchanged crate, or a check of it in the gate. Each is made in a copy of the function that it edits, which stands beside that one
+unchanged crate in this checkout, or a check of it in the gate. Each is made in a copy of the function that it edits, which stands beside that one
 with a copy of its proof, so that none is in the way of another. It is refused if a goal of its copy is not proved. Of one function in each check,
 which the commit chooses, a copy without a bug is made too, and has to be proved.
 The others are made in place, at most one of each function in a check: those in a trait's method or in a cycle of calls, and those that do not fit
-beside others. One of several functions is refused if one of them is not proved, and one of a constant if a function is not that names it. One
-whose function is only said to call another that is not proved waits for the next check. A bug in no function, and one that comes out proved, is
-tried alone, by a check of the whole crate. A bug that does not compile, or that the borrow checker refuses for its form, shows nothing, and fails.
+beside others. One of several functions, or one that adds a function, is refused if one of them is not proved, and one of a constant if a function
+is not that names it. One whose function is only said to call another that is not proved waits for the next check. A bug in no function, and one that
+comes out proved, is tried alone, by a check of the whole crate. A bug that does not compile, or that the borrow checker refuses for its form, shows
+nothing, and fails.
 
 A crate is stale if the kit changed, its bugs, its sources or definitions, or the definitions and clauses of the crates below it.
 """
