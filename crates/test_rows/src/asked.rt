@@ -1,6 +1,7 @@
 //! What calls of the editor give, or refuse; and the annotations that words say.
 
 use cst_core::SyntaxNode;
+use std::fmt::Display;
 use syntax_editor::{Annotations, Error, SyntaxAnnotation};
 use test_trees::{Done, Step, number_of};
 
@@ -13,6 +14,24 @@ pub fn asked<T, E: Into<Error>>(called: Result<T, E>, step: &mut Step) -> Option
             step.refuse(&refusal);
             None
         }
+    }
+}
+
+/// The last of these values, and the one before it, which keeps its place.
+pub fn last_two<T: Drop>(values: &mut Vec<T>) -> Option<(T, &mut T)> {
+    let last = values.pop()?;
+    Some((last, values.last_mut()?))
+}
+
+/// Answers whether a call took the last of these values; if it is refused, that is back.
+pub fn or_back<T: Drop, E: Display + Drop>(
+    called: Result<(), (E, T)>,
+    values: &mut Vec<T>,
+    step: &mut Step,
+) {
+    if let Err((refusal, value)) = called {
+        step.refuse(&refusal);
+        step.note(values.push(value));
     }
 }
 

@@ -1,6 +1,6 @@
 //! Edits one after the other: the editor that follows an edit, and chains.
 
-use crate::asked::{annotation, asked};
+use crate::asked::{annotation, asked, last_two, or_back};
 use crate::session::Session;
 use cst_core::{SyntaxElement, SyntaxNode};
 use edit_chain::EditChain;
@@ -38,14 +38,15 @@ fn chain(s: &mut Session, step: &mut Step) -> Done {
 }
 
 fn find(s: &Session, step: &mut Step) -> Done {
+    let chain = s.chains.last()?;
     let element = s.trees.element(step)?;
-    found(s.chains.last()?.find(step.alloc, &element), step)
+    found(chain.find(step.alloc, &element), step)
 }
 
 fn copies(s: &Session, step: &mut Step) -> Done {
+    let (edit, plan) = (s.edits.last()?, s.plans.last()?);
     let element = s.trees.element(step)?;
-    let plan = s.plans.last()?;
-    found(s.edits.last()?.copies(step.alloc, plan, &element), step)
+    found(edit.copies(step.alloc, plan, &element), step)
 }
 
 fn chain_edits(s: &mut Session, step: &mut Step) -> Done {
@@ -68,8 +69,8 @@ fn keep_root(s: &mut Session, root: SyntaxNode, step: &mut Step) -> Done {
 
 // Carries the last plan out as the next step of the last chain.
 fn next(s: &mut Session, step: &mut Step) -> Done {
-    let plan = s.plans.pop()?;
     let chain = s.chains.last_mut()?;
+    let plan = s.plans.pop()?;
     tried(chain.run(step.alloc, &mut s.trees.ids, plan), step)?;
     let root = made(chain.last_root().try_clone(step.alloc), step)?;
     keep_root(s, root, step)
@@ -77,30 +78,25 @@ fn next(s: &mut Session, step: &mut Step) -> Done {
 
 // The last chain goes behind the one before it, or is given back.
 fn join(s: &mut Session, step: &mut Step) -> Done {
-    let other = s.chains.pop()?;
-    match s.chains.last_mut()?.then(other) {
-        Ok(()) => Some(()),
-        Err((refusal, other)) => {
-            step.note(s.chains.push(other));
-            tried(Err(refusal), step)
-        }
-    }
+    let (other, chain) = last_two(&mut s.chains)?;
+    let called = chain.then(other);
+    Some(or_back(called, &mut s.chains, step))
 }
 
 // Where the elements of an annotation in the last edit stand in the new text and in the text edits of the last plan.
 fn cursors(s: &Session, step: &mut Step) -> Done {
-    let annotation = annotation(step)?;
-    let edits = asked(s.plans.last()?.text_edits(step.alloc), step)?;
-    let called = s.edits.last()?.find_cursors(step.alloc, annotation, &edits);
-    Some(tell_cursors(&asked(called, step)?, step))
+    let (edit, plan, annotation) = (s.edits.last()?, s.plans.last()?, annotation(step)?);
+    let edits = asked(plan.text_edits(step.alloc), step)?;
+    tell_cursors(edit.find_cursors(step.alloc, annotation, &edits), step)
 }
 
-fn tell_cursors(found: &[ElementCursor], step: &mut Step) {
+fn tell_cursors(called: Result<Vec<ElementCursor>, AllocError>, step: &mut Step) -> Done {
+    let found = asked(called, step)?;
     let mut before = "ok ";
-    for cursor in found {
+    for cursor in &found {
         say!(step, "{before}{}-{} ", cursor.start, cursor.end);
         cursor.in_edit.show(step);
         before = ", ";
     }
-    step.put(if found.is_empty() { "ok none" } else { "" });
+    Some(step.put(if found.is_empty() { "ok none" } else { "" }))
 }

@@ -1,6 +1,6 @@
 //! Editors: new ones, the calls that record, what they have recorded, merged ones, and what finishing gives.
 
-use crate::asked::{annotation, annotation_of, asked};
+use crate::asked::{annotation, annotation_of, asked, last_two, or_back};
 use crate::making::factory;
 use crate::plans;
 use crate::session::Session;
@@ -8,7 +8,7 @@ use cst_core::ast::{BlockExpr, Fn, LetStmt};
 use cst_core::{AstNode, SyntaxElement, SyntaxNode};
 use list_removal::remove_separated;
 use syntax_editor::{AttrsOwnerEdit, Change, Error, SyntaxEdit, SyntaxEditor};
-use test_trees::{Done, NoAnswer, Step, change_text, deleted_paths, inserted, position, say};
+use test_trees::{Done, NoAnswer, Step, change_text, deleted_paths, inserted, made, position, say};
 
 // What is told of an editor.
 const TOLD: &str = "check changes deleted deletions inserted fits text plain_text";
@@ -81,14 +81,9 @@ fn clashes_with(s: &mut Session, step: &mut Step) -> Done {
 
 // The last editor goes into the one before it, or is given back.
 fn merge(s: &mut Session, step: &mut Step) -> Done {
-    let other = s.editors.pop()?;
-    match s.editors.last_mut()?.merge(step.alloc, other) {
-        Ok(()) => Some(()),
-        Err((refusal, other)) => {
-            step.note(s.editors.push(other));
-            asked(Err(refusal), step)
-        }
-    }
+    let (other, editor) = last_two(&mut s.editors)?;
+    let called = editor.merge(step.alloc, other);
+    Some(or_back(called, &mut s.editors, step))
 }
 
 /// Keeps an edit that a call gave, and answers its new root.
@@ -114,12 +109,13 @@ fn of_edit(s: &Session, step: &mut Step) -> Done {
             let annotation = annotation(step)?;
             step.paths(edit.find_annotation(annotation))
         }
-        _ => return find_element(edit, &s.trees.node(step)?, step),
+        _ => return find_element(s, edit, step),
     })
 }
 
-fn find_element(edit: &SyntaxEdit, old: &SyntaxNode, step: &mut Step) -> Done {
-    let found = asked(edit.find_element(step.alloc, old), step)?;
+fn find_element(s: &Session, edit: &SyntaxEdit, step: &mut Step) -> Done {
+    let old = s.trees.node(step)?;
+    let found = asked(edit.find_element(step.alloc, &old), step)?;
     Some(match &found {
         Some(node) => step.root_at(node),
         None => step.put("none"),
@@ -135,21 +131,21 @@ fn of_editor(s: &Session, step: &mut Step) -> Done {
         "changes" => step.print(&changes.len()),
         "deletions" => deleted_paths(changes, step),
         "inserted" => inserted(changes, step),
-        "deleted" => return deleted(editor, &s.trees.element(step)?, step),
-        "fits" => return fits(changes.first()?, &s.trees.node(step)?, step),
+        "deleted" => return deleted(s, editor, step),
+        "fits" => return fits(s, changes.first()?, step),
         _ => return change_text(changes.get(step.number::<usize>())?, step),
     })
 }
 
-fn deleted(editor: &SyntaxEditor, element: &SyntaxElement, step: &mut Step) -> Done {
-    let is_deleted = asked(editor.deleted(step.alloc, element), step)?;
+fn deleted(s: &Session, editor: &SyntaxEditor, step: &mut Step) -> Done {
+    let element = s.trees.element(step)?;
+    let is_deleted = asked(editor.deleted(step.alloc, &element), step)?;
     Some(step.truth(is_deleted))
 }
 
-fn fits(change: &Change, node: &SyntaxNode, step: &mut Step) -> Done {
-    let Ok(root) = node.tree_top(step.alloc) else {
-        return step.end_by(NoAnswer::Memory);
-    };
+fn fits(s: &Session, change: &Change, step: &mut Step) -> Done {
+    let node = s.trees.node(step)?;
+    let root = made(node.tree_top(step.alloc), step)?;
     Some(step.truth(change.fits(&root)))
 }
 
@@ -170,19 +166,21 @@ fn record(s: &mut Session, step: &mut Step) -> Done {
 }
 
 fn delete(s: &mut Session, step: &mut Step) -> Done {
+    let editor = s.editors.last_mut()?;
     let element = s.trees.element(step)?;
-    asked(s.editors.last_mut()?.delete(step.alloc, element), step)
+    asked(editor.delete(step.alloc, element), step)
 }
 
 fn add_annotation_all(s: &mut Session, step: &mut Step) -> Done {
-    let (elements, first) = s.trees.others(step).zip(annotation_of("1"))?;
-    let editor = s.editors.last_mut()?;
+    let (editor, first) = (s.editors.last_mut()?, annotation_of("1")?);
+    let elements = s.trees.others(step)?;
     asked(editor.add_annotation_all(step.alloc, elements, first), step)
 }
 
 fn insert(s: &mut Session, step: &mut Step) -> Done {
+    let editor = s.editors.last_mut()?;
     let (at, new) = position(&s.trees, step).zip(s.trees.element(step))?;
-    let (alloc, ids, editor) = (step.alloc, &mut s.trees.ids, s.editors.last_mut()?);
+    let (alloc, ids) = (step.alloc, &mut s.trees.ids);
     asked(
         match step.name {
             "insert" => editor.insert(alloc, at, new),
@@ -193,8 +191,9 @@ fn insert(s: &mut Session, step: &mut Step) -> Done {
 }
 
 fn insert_all(s: &mut Session, step: &mut Step) -> Done {
+    let editor = s.editors.last_mut()?;
     let (at, new) = position(&s.trees, step).zip(s.trees.others(step))?;
-    let (alloc, ids, editor) = (step.alloc, &mut s.trees.ids, s.editors.last_mut()?);
+    let (alloc, ids) = (step.alloc, &mut s.trees.ids);
     asked(
         match step.name {
             "insert_all" => editor.insert_all(alloc, at, new),
@@ -206,8 +205,8 @@ fn insert_all(s: &mut Session, step: &mut Step) -> Done {
 
 // By a call that takes two elements.
 fn record_two(s: &mut Session, step: &mut Step) -> Done {
-    let (first, second) = s.trees.two_elements(step)?;
     let editor = s.editors.last_mut()?;
+    let (first, second) = s.trees.two_elements(step)?;
     asked(
         match step.name {
             "replace" => editor.replace(step.alloc, first, second),
@@ -218,48 +217,35 @@ fn record_two(s: &mut Session, step: &mut Step) -> Done {
 }
 
 fn replace_with_many(s: &mut Session, step: &mut Step) -> Done {
+    let editor = s.editors.last_mut()?;
     let (old, new) = s.trees.element(step).zip(s.trees.others(step))?;
-    asked(
-        s.editors
-            .last_mut()?
-            .replace_with_many(step.alloc, old, new),
-        step,
-    )
+    asked(editor.replace_with_many(step.alloc, old, new), step)
 }
 
 fn replace_all(s: &mut Session, step: &mut Step) -> Done {
+    let editor = s.editors.last_mut()?;
     let ((first, end), new) = s.trees.two_elements(step).zip(s.trees.others(step))?;
-    asked(
-        s.editors
-            .last_mut()?
-            .replace_all(step.alloc, first, end, new),
-        step,
-    )
+    asked(editor.replace_all(step.alloc, first, end, new), step)
 }
 
 fn add_annotation(s: &mut Session, step: &mut Step) -> Done {
+    let editor = s.editors.last_mut()?;
     let (target, annotation) = s.trees.element(step).zip(annotation(step))?;
-    asked(
-        s.editors
-            .last_mut()?
-            .add_annotation(step.alloc, target, annotation),
-        step,
-    )
+    asked(editor.add_annotation(step.alloc, target, annotation), step)
 }
 
 // An element of a list, with a separator of a kind.
 fn remove(s: &mut Session, step: &mut Step) -> Done {
+    let editor = s.editors.last_mut()?;
     let (target, separator) = (s.trees.element(step)?, step.kind());
-    asked(
-        remove_separated(step.alloc, s.editors.last_mut()?, &target, separator),
-        step,
-    )
+    let called = remove_separated(step.alloc, editor, &target, separator);
+    asked(called, step)
 }
 
 // Of a function or a statement.
 fn remove_attrs_and_docs(s: &mut Session, step: &mut Step) -> Done {
-    let node = s.trees.node(step)?;
     let editor = s.editors.last_mut()?;
+    let node = s.trees.node(step)?;
     if Fn::can_cast(node.kind()) {
         return asked(
             Fn::cast(node)?.remove_attrs_and_docs(step.alloc, editor),

@@ -4,7 +4,7 @@ use crate::asked::{annotation_of, asked, new_root};
 use crate::session::Session;
 use crate::{editors, errors};
 use cst_core::{SyntaxElement, SyntaxNode, SyntaxToken};
-use syntax_editor::{Annotations, SyntaxFactory};
+use syntax_editor::{Annotations, Error, SyntaxFactory, WrapError};
 use test_trees::{Done, Step, Trees, kind_name, made, read_tree, say};
 
 /// Takes the step of this name, or passes on what is none of these.
@@ -25,16 +25,18 @@ pub fn answer(s: &mut Session, step: &mut Step) -> Done {
 fn token(s: &mut Session, step: &mut Step) -> Done {
     let (kind, text) = (step.kind(), text_of_tree(step)?);
     let factory = SyntaxFactory::without_mappings(step.alloc);
-    let called = factory.token(step.alloc, &mut s.trees.ids, kind, &text);
-    let token = asked(called, step)?;
-    show_token(&token, step)
+    show_token(
+        factory.token(step.alloc, &mut s.trees.ids, kind, &text),
+        step,
+    )
 }
 
 fn whitespace(s: &mut Session, step: &mut Step) -> Done {
     let (factory, text) = factory(step).zip(text_of_tree(step))?;
-    let called = factory.whitespace(step.alloc, &mut s.trees.ids, &text);
-    let token = asked(called, step)?;
-    show_token(&token, step)
+    show_token(
+        factory.whitespace(step.alloc, &mut s.trees.ids, &text),
+        step,
+    )
 }
 
 fn node(s: &mut Session, step: &mut Step) -> Done {
@@ -45,13 +47,14 @@ fn node(s: &mut Session, step: &mut Step) -> Done {
 }
 
 fn map_editor(s: &mut Session, step: &mut Step) -> Done {
+    let editor = s.editors.last_mut()?;
     let builder = s.trees.builders.pop()?;
-    asked(s.editors.last_mut()?.add_mapping(step.alloc, builder), step)
+    asked(editor.add_mapping(step.alloc, builder), step)
 }
 
 fn map_all(s: &mut Session, step: &mut Step) -> Done {
-    let builder = s.trees.builders.pop()?;
     let mapping = s.editors.last_mut()?.make_mut().mappings()?;
+    let builder = s.trees.builders.pop()?;
     asked(builder.finish(step.alloc, mapping), step)
 }
 
@@ -86,7 +89,12 @@ fn text_of_tree(step: &mut Step) -> Option<String> {
 }
 
 // A token's kind, its text, the number of its tree, and what it stands below.
-fn show_token(token: &SyntaxToken, step: &mut Step) -> Done {
+fn show_token<E: Into<Error>>(called: Result<SyntaxToken, E>, step: &mut Step) -> Done {
+    let token = asked(called, step)?;
+    show_with_parent(&token, step)
+}
+
+fn show_with_parent(token: &SyntaxToken, step: &mut Step) -> Done {
     say!(step, "ok {} ", kind_name(token.kind()));
     step.quote(token.text());
     let parent = made(token.parent(step.alloc), step)??;
@@ -101,10 +109,14 @@ fn show_parent(parent: &SyntaxNode, step: &mut Step) -> Done {
 
 // A node, a kind, the elements that stand before `round`, and those after it.
 fn wrap(s: &mut Session, step: &mut Step) -> Done {
-    let (node, kind) = (s.trees.node(step)?, step.kind());
-    let (before, after) = elements_around(&s.trees, step)?;
     let editor = s.editors.last_mut()?;
+    let (node, kind) = (s.trees.node(step), step.kind());
+    let (node, (before, after)) = node.zip(elements_around(&s.trees, step))?;
     let called = editor.wrap(step.alloc, &mut s.trees.ids, &node, kind, &before, &after);
+    wrapped(called, step)
+}
+
+fn wrapped(called: Result<SyntaxNode, WrapError>, step: &mut Step) -> Done {
     let copy = asked(called, step)?;
     Some(step.root_at(&copy))
 }

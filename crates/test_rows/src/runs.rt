@@ -1,5 +1,7 @@
 //! Plans that are carried out one change at a time.
-ghost use Rattle.std.specs.Prelude.{◌≡◌, ◌<◌, length};
+ghost use Rattle.std.specs.Prelude.{◌≡◌, ◌<◌, true, length, IfSome};
+ghost use Rattle.edit_plan.specs.Schedule.{is_complete};
+ghost use Rattle.edit_plan.specs.Run.{is_done};
 
 use crate::editors::keep_edit;
 use crate::indents;
@@ -12,40 +14,53 @@ use test_trees::{CHANGED, Done, NoAnswer, Show, Step, say};
 /// Takes the step of this name, or passes on what is none of these.
 pub fn answer(s: &mut Session, step: &mut Step) -> Done {
     match step.name {
-        "stepped" => {
-            step.put("ok");
-            Stepped::new(s.plans.last()?, step)?.take_all(step)
-        }
-        "finish_run" => finish_run(s, None, step),
-        "finish_counting" => finish_run(s, Some(step.number()), step),
+        "stepped" => take_steps(s, step),
+        "finish_run" => finish_run(s, step),
+        "finish_counting" => finish_counting(s, step),
         _ => indents::answer(s, step),
     }
 }
 
-// The edit that a run gives where it is complete; if there is a first number, also the count from it on of the walk
-// that gives the edit its paths. Where there is no edit the count is as it was.
-fn finish_run(s: &mut Session, first: Option<u64>, step: &mut Step) -> Done {
+fn take_steps(s: &Session, step: &mut Step) -> Done {
+    step.put("ok");
+    let mut stepped = Stepped::new(s.plans.last()?, step)?;
+    stepped.take_all(step)
+}
+
+// The edit that a run gives where it is complete.
+fn finish_run(s: &mut Session, step: &mut Step) -> Done {
     let run = run_by(s.plans.last()?, step)?;
-    if !run.is_complete() {
-        return Some(step.put("not complete"));
-    }
-    let Some(first) = first else {
-        let called = run.finish(step.alloc, &mut s.trees.ids);
-        return keep_edit(s, called, step);
-    };
+    let called = run.finish(step.alloc, &mut s.trees.ids);
+    keep_edit(s, called, step)
+}
+
+// The same, and the count from a first number on of the walk that gives the edit its paths. Where there is no edit the
+// count is as it was.
+fn finish_counting(s: &mut Session, step: &mut Step) -> Done {
+    let first = step.number();
+    let run = run_by(s.plans.last()?, step)?;
     let mut walk = OnePassEngine::starting_at(step.alloc, first);
     let called = run.finish_counting(step.alloc, &mut s.trees.ids, &mut walk);
-    step.demand(called.is_ok() || walk.builds() == first, CHANGED)?;
+    if called.is_err() && walk.builds() != first {
+        step.stop(CHANGED);
+    }
     keep_edit(s, called, step)?;
     Some(say!(step, ", built {}", walk.builds()))
 }
 
-// A run by these steps, without what they answer.
-fn run_by<'a>(plan: &'a EditPlan, step: &mut Step) -> Option<EditRun<'a>> {
+// A complete run by these steps, without what they answer; or that it is not complete.
+fn run_by<'a>(plan: &'a EditPlan, step: &mut Step) -> Option<EditRun<'a>>
+    ensures { IfSome result (λ run. is_complete run.plan.changes (is_done run) ≡ true) }
+{
     let mut stepped = Stepped::new(plan, step)?;
-    stepped.take_all(step)?;
+    let taken = stepped.take_all(step);
     step.text.clear();
-    Some(stepped.run)
+    if taken.is_some() && stepped.run.is_complete() {
+        return Some(stepped.run);
+    }
+    step.put("not complete");
+    step.end_by(NoAnswer::Refusal)?;
+    None
 }
 
 // A run of a plan, and how many changes that has.
