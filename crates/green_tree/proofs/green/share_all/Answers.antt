@@ -4,3 +4,6 @@ use Rattle.green_tree.proofs.green.share_all.Goals as goal
 
 pub returns : goal.returns
 returns c = grind (arith, common_steps)
+
+pub loop-element-preserved : goal.loop-element-preserved
+loop-element-preserved c = grind (arith, common_steps)
