@@ -6,8 +6,8 @@ and records nothing: so a record that was written by hand is found out. `--stale
 
 A check says of each function whether it is proved, so many bugs are tried in one (`rattle check --only F ..`), over what `rt check` kept of the
 unchanged crate in this checkout, or a check of it in the gate. Each is made in a copy of the function that it edits, which stands beside that one
-with a copy of its proof, so that none is in the way of another. It is refused if a goal of its copy is not proved. Of one function in each check,
-which the commit chooses, a copy without a bug is made too, and has to be proved.
+with a copy of its proof, so that none is in the way of another. It is refused if a goal of its copy is not proved. Of one function in sixteen, and
+of one at least in each check, which the commit chooses, a copy without a bug is made too, and has to be proved.
 The others are made in place, at most one of each function in a check: those in a trait's method or in a cycle of calls, and those that do not fit
 beside others. One of several functions, or one that adds a function, is refused if one of them is not proved, and one of a constant if a function
 is not that names it. One whose function is only said to call another that is not proved waits for the next check. A bug in no function, and one that
@@ -385,7 +385,7 @@ class Trial:
         return found | dict(self.pool.map(self.whole, alone))
 
     def in_copies(self, bugs):
-        """What one check says of these bugs in copies of their functions, by their names, if it proves the copy without a bug."""
+        """What one check says of these bugs in copies of their functions, by their names, if it proves the copies without a bug."""
         with tempfile.TemporaryDirectory(dir=self.lab.room) as folder:
             copies, only = self.plant_copies(bugs, f"{folder}/crate")
             said = self.check(folder, sorted(only))[1]
@@ -400,11 +400,12 @@ class Trial:
         return {bug.name: kind for bug, (kind, _) in verdicts if bug}
 
     def plant_copies(self, bugs, folder):
-        """Makes a copy of the crate in which copies of functions stand, with these bugs and one without: each with its bug, and the names of their proofs."""
+        """Makes a copy of the crate in which copies of functions stand, with these bugs or without: each with its bug, and the names of their proofs."""
         shutil.copytree(self.folder, folder)
         edited = {f"{it.function.key()}": it.function for it in bugs}
         copies, only, texts = [], set(), {}
-        for number, (bug, of) in enumerate([*((bug, bug.function) for bug in bugs), (None, edited[drawn(edited)[0]])]):
+        unaltered = [edited[it] for it in drawn(edited)[: 1 + len(edited) // 16]]
+        for number, (bug, of) in enumerate([*((bug, bug.function) for bug in bugs), *((None, it) for it in unaltered)]):
             name = next(it for it in of.proofs(self.names) if it.endswith(f"::{of.name}"))
             copies.append((bug, of.copied(number, bug.edits if bug else [], folder, name)))
             only.add(name.removesuffix(of.name) + copies[-1][1].name)
