@@ -30,12 +30,23 @@ use std::marker::Model;
 
 // Where an element stands: the number of its tree, the tree, and the child slots on the way from the root. The allocator is for texts that
 // are printed, where no caller hands one in.
-#[derive(Drop)]
 pub(crate) struct Location {
     pub(crate) alloc: Global,
     pub(crate) tree: u64,
     pub(crate) root: GreenNode,
     pub(crate) path: SlotPath,
+}
+
+// One call lets a value go, not one for each field.
+impl Drop for Location {
+    fn drop(self) {
+        let Location {
+            alloc: _,
+            tree: _,
+            root: _,
+            path: _,
+        } = self;
+    }
 }
 
 impl Model for Location {

@@ -25,10 +25,19 @@ use std::marker::Model;
 
 /// A value that stands for a node of a tree: the number of the tree, the tree, and the child slots on the way to the
 /// node. Values are equal exactly if number and path are, and equal values hash alike.
-#[derive(Drop)]
 pub struct SyntaxNode {
     pub(crate) location: Location,
     pub(crate) green: GreenNode,
+}
+
+// One call lets a value go, not one for each field.
+impl Drop for SyntaxNode {
+    fn drop(self) {
+        let SyntaxNode {
+            location: _,
+            green: _,
+        } = self;
+    }
 }
 
 impl Model for SyntaxNode {

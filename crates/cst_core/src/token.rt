@@ -27,10 +27,19 @@ use std::hash::{Hash, Hasher};
 use std::marker::Model;
 
 /// A value that stands for a token of a tree, as `SyntaxNode` does for a node.
-#[derive(Drop)]
 pub struct SyntaxToken {
     pub(crate) location: Location,
     pub(crate) green: GreenToken,
+}
+
+// One call lets a value go, not one for each field.
+impl Drop for SyntaxToken {
+    fn drop(self) {
+        let SyntaxToken {
+            location: _,
+            green: _,
+        } = self;
+    }
 }
 
 impl Model for SyntaxToken {

@@ -20,9 +20,15 @@ enum Form {
 }
 
 /// A gap among the children of a node, where an insert puts its elements.
-#[derive(Drop)]
 pub struct Position {
     form: Form,
+}
+
+// One call lets a value go, not one for each field.
+impl Drop for Position {
+    fn drop(self) {
+        let Position { form: _ } = self;
+    }
 }
 
 impl Model for Position {

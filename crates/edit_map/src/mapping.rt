@@ -17,11 +17,20 @@ use std::marker::Model;
 ///
 /// A copy has a greater tree number than what it is the copy of, and the same shape. Nodes are told apart by tree number and
 /// path; the newest pair of a node wins, so no node has two copies.
-#[derive(Drop)]
 pub struct SyntaxMapping {
     pub(crate) copies: HashMap<SyntaxNode, SyntaxNode>,
     // It has each node that has a copy; after a refused call it may have more.
     pub(crate) stops: Stops,
+}
+
+// One call lets a value go, not one for each field.
+impl Drop for SyntaxMapping {
+    fn drop(self) {
+        let SyntaxMapping {
+            copies: _,
+            stops: _,
+        } = self;
+    }
 }
 
 impl Model for SyntaxMapping {
@@ -161,7 +170,8 @@ impl SyntaxMapping {
         ensures { IfOk result (λ v. IsMadeOf self (reverse v.items) × ArePairs v.items) }
     {
         let mut pairs = Vec::with_capacity(alloc, self.copies.len())?;
-        for pair in self.copies {
+        let SyntaxMapping { copies, stops: _ } = self;
+        for pair in copies {
             pairs.push(pair)?;
         }
         Ok(pairs)

@@ -11,12 +11,23 @@ use std::alloc::{AllocError, Global};
 use std::marker::Model;
 
 /// What carrying out a plan gives.
-#[derive(Drop)]
 pub struct SyntaxEdit {
     pub(crate) old_root: SyntaxNode,
     pub(crate) new_root: SyntaxNode,
     pub(crate) changed: Vec<SyntaxElement>,
     pub(crate) annotated: AnnotatedElements,
+}
+
+// One call lets a value go, not one for each field.
+impl Drop for SyntaxEdit {
+    fn drop(self) {
+        let SyntaxEdit {
+            old_root: _,
+            new_root: _,
+            changed: _,
+            annotated: _,
+        } = self;
+    }
 }
 
 impl Model for SyntaxEdit {

@@ -61,7 +61,6 @@ fn prepare(
 }
 
 /// The changes of a tree, looked through and ready to be carried out.
-#[derive(Drop)]
 pub struct EditPlan {
     pub(crate) root: SyntaxNode,
     pub(crate) changes: Vec<Change>,
@@ -74,6 +73,21 @@ pub struct EditPlan {
     pub(crate) fates: Vec<Fate>,
     // The place of each owner's target in its payload.
     pub(crate) places: Vec<Option<Vec<usize>>>,
+}
+
+// One call lets a value go, not one for each field.
+impl Drop for EditPlan {
+    fn drop(self) {
+        let EditPlan {
+            root: _,
+            changes: _,
+            registrations: _,
+            mapping: _,
+            order: _,
+            fates: _,
+            places: _,
+        } = self;
+    }
 }
 
 impl Model for EditPlan {

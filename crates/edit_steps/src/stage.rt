@@ -22,11 +22,21 @@ use std::alloc::{AllocError, Global};
 ///
 /// It keeps the old element, the element as it stands now, and of the nodes of the old one to which steps came how much stands in the places
 /// of their children. So a later step finds where it goes by one look at each node on its way, in whatever order the steps came.
-#[derive(Drop)]
 pub struct Stage {
     original: GreenElement,
     current: GreenElement,
     visited: VisitedNodes,
+}
+
+// One call lets a value go, not one for each field.
+impl Drop for Stage {
+    fn drop(self) {
+        let Stage {
+            original: _,
+            current: _,
+            visited: _,
+        } = self;
+    }
 }
 
 impl Stage {

@@ -10,7 +10,6 @@ use std::alloc::{AllocError, Global};
 
 /// Values by path. From the top each path leads, by one step a slot, to a cell of its own; so a way down costs its length, and
 /// finds the values of all elements on it.
-#[derive(Drop)]
 pub struct PathTable<V> {
     steps: Steps,
     // By cell; the last cells may be missing, and have none.
@@ -18,6 +17,17 @@ pub struct PathTable<V> {
     // The slots of the path that was entered last, each with the cell that it leads to. The next path goes on where the two part, so
     // paths near to each other are entered together.
     way: Vec<(usize, usize)>,
+}
+
+// One call lets a value go, not one for each field.
+impl<V: Drop> Drop for PathTable<V> {
+    fn drop(self) {
+        let PathTable {
+            steps: _,
+            values: _,
+            way: _,
+        } = self;
+    }
 }
 
 // How many slots a way and a path have in common, and the cell that these lead to.

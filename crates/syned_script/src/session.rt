@@ -26,7 +26,6 @@ use std::alloc::Global;
 use syntax_editor::SyntaxEditor;
 
 /// The language of a script, its trees, its source of tree numbers, and what it edits once there is something.
-#[derive(Drop)]
 pub(crate) struct Session {
     alloc: Global,
     pub(crate) language: Language,
@@ -34,6 +33,20 @@ pub(crate) struct Session {
     roots: Roots,
     words: Words,
     editing: Option<Editing>,
+}
+
+// One call lets a value go, not one for each field.
+impl Drop for Session {
+    fn drop(self) {
+        let Session {
+            alloc: _,
+            language: _,
+            ids: _,
+            roots: _,
+            words: _,
+            editing: _,
+        } = self;
+    }
 }
 
 /// The editor of a script, the order of its changes, where the script says one, and what its answer shows besides.
@@ -128,11 +141,12 @@ impl Session {
         ensures nothing { IfErr result (StopsFor ((state_of self).editing ≡ None) (λ r. ⊥)) }
     {
         let Session {
+            alloc: _,
             language,
             ids,
+            roots: _,
             words,
             editing,
-            ..
         } = self;
         let editing = editing.ok_or(Stop::bad(0, Reason::NoEdit))?;
         Ok(Parts {

@@ -20,10 +20,19 @@ pub struct Word {
 }
 
 /// The words that were used, each with an annotation of its own.
-#[derive(Drop)]
 pub struct Words {
     annotations: HashMap<String, SyntaxAnnotation>,
     in_order: Vec<Word>,
+}
+
+// One call lets a value go, not one for each field.
+impl Drop for Words {
+    fn drop(self) {
+        let Words {
+            annotations: _,
+            in_order: _,
+        } = self;
+    }
 }
 
 impl Model for Words {

@@ -21,13 +21,24 @@ use std::marker::Model;
 ///
 /// Which list of changes each call leaves: see 'change_list: Recording' in docs/DEFINITIONS.md. Payloads may be of
 /// any tree; what is changed is of the editor's.
-#[derive(Drop)]
 pub struct SyntaxEditor {
     pub(crate) root: SyntaxNode,
     pub(crate) changes: ChangeList,
     // The elements that are registered with annotations, in order.
     pub(crate) registrations: Vec<(SyntaxElement, SyntaxAnnotation)>,
     pub(crate) factory: SyntaxFactory,
+}
+
+// One call lets a value go, not one for each field.
+impl Drop for SyntaxEditor {
+    fn drop(self) {
+        let SyntaxEditor {
+            root: _,
+            changes: _,
+            registrations: _,
+            factory: _,
+        } = self;
+    }
 }
 
 impl Model for SyntaxEditor {
@@ -152,9 +163,14 @@ impl SyntaxEditor {
         ensures planned { IfOk result IsPlan }
         ensures refused { IfErr result (BuildRefuses (plan_of self)) }
     {
-        let mapping = self.factory.into_mapping(alloc);
-        let changes = self.changes.into_vec();
-        EditPlan::build(alloc, self.root, changes, self.registrations, mapping)
+        let SyntaxEditor {
+            root,
+            changes,
+            registrations,
+            factory,
+        } = self;
+        let mapping = factory.into_mapping(alloc);
+        EditPlan::build(alloc, root, changes.into_vec(), registrations, mapping)
     }
 
     /// Carries the changes out: the new tree under the next number of `ids`, with its changed elements.

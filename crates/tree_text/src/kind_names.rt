@@ -22,11 +22,17 @@ struct GivenName {
 }
 
 /// Names of kinds, of one's own beside the 65 that `SyntaxKind` has.
-#[derive(Drop)]
 pub struct KindNames {
     given: Vec<GivenName>,
     // The kind of each of these names.
     kinds: HashMap<String, SyntaxKind>,
+}
+
+// One call lets a value go, not one for each field.
+impl Drop for KindNames {
+    fn drop(self) {
+        let KindNames { given: _, kinds: _ } = self;
+    }
 }
 
 impl Model for KindNames {
