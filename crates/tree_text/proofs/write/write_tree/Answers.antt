@@ -5,4 +5,4 @@ use Rattle.tree_text.proofs.write.write_tree.Goals as goal
 
 pub returns-clause-no_name : goal.returns-clause-no_name
 returns-clause-no_name c =
-    subst (λ given. NamesUnnamed c.write_tree_with-2.result (unnamed_in given (branch_tree c.args.tree.now))) c.new.ensures c.write_tree_with-2.ensures.no_name
+    subst (λ given. NamesUnnamed c.write_tree_with.result (unnamed_in given (branch_tree c.args.tree.now))) c.new.ensures c.write_tree_with.ensures.no_name
