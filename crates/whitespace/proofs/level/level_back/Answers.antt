@@ -7,7 +7,7 @@ use Rattle.whitespace.proofs.level.level_back.Goals as goal
 pub returns-in_default : goal.returns-in_default
 returns-in_default c = zero_read _ c.zero.result (zero_first _ c.back.current _ _ c.back.invariant c.breaks_line.ensures c.back-test.true c.in_ok-before.ensures.ok c.in_default.is) c.zero.ensures
 
-abbrev back : (c : goal.After-drop-current-inside-in-back-3) → OneBack c.back.current c.in-Some.before
+abbrev back : (c : goal.After-drop-current-in-back) → OneBack c.back.current c.in-Some.before
 back c = back_one c.back.current c.in-Some.before _ _ c.breaks_line.ensures c.back-test.true c.in_ok-before.ensures.ok c.in-Some.is
 
 pub back-smaller : goal.back-smaller

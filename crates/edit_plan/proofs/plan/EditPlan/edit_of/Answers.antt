@@ -36,4 +36,4 @@ returns-clause-ok c =
     makes c.args.self.now rewritten.green (paths_of rewritten.changed.items) (map annotated_path rewritten.annotated.items) c.requires.rewritten c.args.ids.now _ (c.in_ok-old_root.ensures ∙ ap (λ x. x.root) c.self.view_is) (c.in_ok-new_root.ensures.ok ∙ ap (λ n. record { number = n; root = branch_tree rewritten.green; path = [] }) own) (c.in_ok-changed.ensures there) c.in_ok-annotated.ensures
 
 pub returns-clause-short : goal.returns-clause-short
-returns-clause-short c = subst (λ e. text_length e.root < length_limit) c.new_root-2.view_is c.new_root-2.invariant.fits
+returns-clause-short c = subst (λ t. text_length t < length_limit) (sym (ap (λ x. x.root) c.in_ok-new_root.ensures.ok)) c.requires.short
