@@ -1,5 +1,5 @@
 -- The way up from a target to a payload.
---     copied-found, copied-none      what a look-up says of the copy
+--     copied-or                      the copy that was found, or the node itself
 --     child-of-parent                an element is a child of its parent, at its last slot
 --     met, not-met                   what a test of two nodes says
 --     StandsFor-down                 what stands one step below
@@ -8,9 +8,8 @@
 --     climbed-there, climbed-nowhere the payload is met; a root is met instead
 --     climbed-to, climbed-past       on to the last stop; where there is none, nothing stands for the target
 --     way, way-falls                 how long the way can get, at most; less with each step
-use Rattle.std.specs.Prelude.{◌≡◌, ◌≢◌, ℕ, suc, ◌+◌, ◌*◌, ◌<◌, ◌≤◌, true, false, not, cond, [], ◌∷◌, ◌++◌, length, reverse, take, drop, find, Some, None, option_map, refl}
+use Rattle.std.specs.Prelude.{◌≡◌, ◌≢◌, ℕ, suc, ◌+◌, ◌*◌, ◌<◌, ◌≤◌, true, false, not, cond, [], ◌∷◌, ◌++◌, length, reverse, take, drop, find, Option, Some, None, option_map, unwrap_or, refl}
 use Rattle.std.specs.Option.{option_map_or}
-use Rattle.std.specs.Map.{lookup}
 use Rattle.std.proofs.Common.{ap, ap₂, sym, subst, ◌∙◌, arith, inl, inr, add-one, get_or, append_assoc, append-nil}
 use Rattle.std.proofs.Math.Nat.{mul-le-mul_right, suc-mul}
 use Rattle.std.proofs.lemmas.Bool.{true≢false, true_from_ne_false}
@@ -25,13 +24,11 @@ use Rattle.edit_map.specs.inner.Climbing.{in_tree, at_depth, Passes, HasNoCopy}
 use Rattle.edit_map.proofs.Copies.{same_addresses, same_address-true, same_address-itself}
 use Rattle.edit_map.proofs.Followed.{counted, copy-falls}
 use Rattle.edit_map.proofs.Places.{StandsFor-push, last_view}
-use Rattle.edit_map.proofs.Tables.{alike, lookup-copy}
+use Rattle.edit_map.proofs.Tables.{alike}
 
-pub copied-found : (m : Mapping) (e c : Element) → Some c ≡ lookup (alike e) m → address c ≡ copied m (address e)
-copied-found m e c is = ap (λ o. option_map_or address o (address e)) (is ∙ lookup-copy m e)
-
-pub copied-none : (m : Mapping) (e : Element) → None ≡ lookup (alike e) m → address e ≡ copied m (address e)
-copied-none m e is = ap (λ o. option_map_or address o (address e)) (is ∙ lookup-copy m e)
+pub copied-or : {B : Type 0} (element : B → Element) (m : Mapping) (o : Option B) (b r : B) → r ≡ unwrap_or o b → option_map element o ≡ copy m (address (element b)) → address (element r) ≡ copied m (address (element b))
+copied-or element m None b r at is = ap (λ c. address (element c)) at ∙ ap (λ o. option_map_or address o (address (element b))) is
+copied-or element m (Some c) b r at is = ap (λ c. address (element c)) at ∙ ap (λ o. option_map_or address o (address (element b))) is
 
 pub child-of-parent : (e parent : Element) → Some parent ≡ parent_of e → address e ≡ child_address (address parent) (last_slot e.path)
 child-of-parent e parent is =

@@ -5,6 +5,7 @@ mod Refusals
 pub mod Tables
 mod Distinct
 pub mod Making
+mod Numbered
 pub mod Places
 mod Shapes
 pub mod Followed

@@ -1,61 +1,22 @@
 -- What mappings are made of.
 --     copy-append                    the copy in two lists, one before the other
---     made-same-order                a table is made of its entries in any order
 --     made-through, made-ahead, ok-ahead    made of what something is made of; the same before other pairs, where a call succeeds
 --     made-pairs, either-mapping     what is made of pairs of nodes that rise are such pairs; and a mapping, whether it was made or refused
 --     under-more                     more pairs under a parent, the newest first
 --     pairs-rise                     such pairs rise
-use Rattle.std.specs.Prelude.{◌≡◌, true, false, cond, [], ◌∷◌, ◌++◌, find, reverse, Option, Some, None, option_map, Result, Ok, Err, OnOk, OnErr, All, Contains, refl}
+use Rattle.std.specs.Prelude.{◌≡◌, true, false, cond, [], ◌∷◌, ◌++◌, find, reverse, Some, option_map, Result, Ok, Err, OnOk, OnErr, All, Contains, refl}
 use Rattle.std.specs.Option.{option_or}
-use Rattle.std.specs.List.{IsDistinct}
-use Rattle.std.specs.List.Sorted.{IsPermutation}
-use Rattle.std.specs.Map.{keys_of}
 use Rattle.std.proofs.Common.{ap, sym, ◌∙◌, inl, inr}
-use Rattle.std.proofs.lemmas.Option.{slice_get-get_or, none-some}
-use Rattle.std.proofs.lemmas.Map.Keys.{IsDistinct-IsPermutation}
-use Rattle.std.proofs.lemmas.Map.Entries.{lookup_from_place}
-use Rattle.std.proofs.lemmas.List.Elements.{All-same, All-weaker, All-contains, All-contains_itself, All-append, Contains-append_left, Contains-append_right, Contains-append_cases}
-use Rattle.std.proofs.lemmas.List.Sorted.{All-permutation, Contains-permutation, IsPermutation-map, IsPermutation-reverse, IsPermutation-sym}
+use Rattle.std.proofs.lemmas.List.Elements.{All-same, All-weaker, All-contains, All-append, Contains-append_left, Contains-append_right, Contains-append_cases}
+use Rattle.std.proofs.lemmas.List.Sorted.{All-permutation, IsPermutation-reverse}
 use Rattle.cst_core.specs.Element.{Address, Element, address, same_address}
 use Rattle.edit_map.specs.Mapping.{Mapping, copy, Rises, IsRising}
 use Rattle.edit_map.specs.Builder.{IsMadeOf, IsPair, ArePairs, AreDistinct, IsMapping, IsPairUnder, ArePairsUnder}
-use Rattle.edit_map.proofs.Copies.{pair_of_copy}
-use Rattle.edit_map.proofs.Tables.{alike, alike-laws, lookup-copy}
 
 pub copy-append : (m n : Mapping) (x : Address) → copy (m ++ n) x ≡ option_or (copy m x) (copy n x)
 copy-append [] n x = refl
 copy-append (pair ∷ m) n x =
     elim (same_address (address pair.0) x) as (λ b. option_map (λ (d : Element × Element). d.1) (cond b (Some pair) (find (λ d. same_address (address d.0) x) (m ++ n))) ≡ option_or (option_map (λ (d : Element × Element). d.1) (cond b (Some pair) (find (λ d. same_address (address d.0) x) m))) (copy n x)) [ true ↦ refl | false ↦ copy-append m n x ]
-
--- ---- order
-copy-contained : (m : Mapping) → IsDistinct alike (keys_of m) → (pair : Element × Element) → Contains m pair → copy m (address pair.0) ≡ Some pair.1
-copy-contained m distinct pair (k, within, is) =
-    sym (lookup-copy m pair.0) ∙ lookup_from_place alike-laws m k pair.0 pair.1 distinct (slice_get-get_or m k pair within ∙ ap Some is)
-
-copy-moved : (m n : Mapping) → IsPermutation m n → IsDistinct alike (keys_of n) → (x : Address) (c : Element) → copy m x ≡ Some c → copy n x ≡ Some c
-copy-moved m n moved distinct x c is =
-    let found : (pair : Element × Element) × Contains m pair × (address pair.0 ≡ x) × (pair.1 ≡ c) = pair_of_copy (Contains m) m x c (All-contains_itself m) is in
-    ap (copy n) (sym found.2) ∙ copy-contained n distinct found.0 (Contains-permutation m n found.0 moved found.1) ∙ ap Some found.3
-
-same-copy : (m n : Mapping) → IsPermutation m n → IsDistinct alike (keys_of m) → IsDistinct alike (keys_of n) → (x : Address) → copy n x ≡ copy m x
-same-copy m n moved distinct distinct' x =
-    (elim (copy m x) as (λ o. copy m x ≡ o → copy n x ≡ o) [
-      | Some c ↦ λ is. copy-moved m n moved distinct' x c is
-      | None ↦ λ is. by_other (copy n x) refl is
-    ]) refl
-  where
-    by_other : (o : Option Element) → copy n x ≡ o → copy m x ≡ None → copy n x ≡ None
-    by_other None at none = at
-    by_other (Some c) at none = absurd (none-some c (sym none ∙ copy-moved n m (IsPermutation-sym m n moved) distinct x c at))
-
-pub made-same-order : (m n : Mapping) → IsPermutation m n → IsDistinct alike (keys_of m) → IsMadeOf m n
-made-same-order m n moved distinct = record {
-  copies = same-copy m n moved distinct (IsDistinct-IsPermutation alike (alike-laws.symm) (keys_of m) (keys_of n) (IsPermutation-map (λ (pair : Element × Element). pair.0) m n moved) distinct);
-  among = All-permutation (Contains m) m n moved (All-contains_itself m);
-}
-
-pub made-reverse : (m : Mapping) → IsDistinct alike (keys_of m) → IsMadeOf m (reverse m)
-made-reverse m distinct = made-same-order m (reverse m) (IsPermutation-reverse m) distinct
 
 -- ---- in a row
 pub made-through : (l m n : Mapping) → IsMadeOf l m → IsMadeOf m n → IsMadeOf l n

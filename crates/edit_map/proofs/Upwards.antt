@@ -10,7 +10,6 @@
 use Rattle.std.specs.Prelude.{◌≡◌, ℕ, zero, suc, ◌+◌, ◌-◌, ◌<◌, ◌≤◌, take, List, [], ◌∷◌, ◌++◌, map, filter_map, length, Option, Some, None, option_map, Result, Ok, Err, IfOk, IfSome, refl}
 use Rattle.std.specs.List.{cons_option}
 use Rattle.std.proofs.Common.{ap, sym, ◌∙◌, append-nil, arith}
-use Rattle.std.specs.Map.{lookup}
 use Rattle.std.proofs.lemmas.Bool.{cases_lt}
 use Rattle.std.proofs.lemmas.List.{map-append, length_push, take_all, length-take-le}
 use Rattle.std.proofs.lemmas.List.Elements.{filter_map-append}
@@ -23,7 +22,6 @@ use Rattle.edit_map.specs.Following.{step_among}
 use Rattle.edit_map.specs.inner.Climbing.{in_tree, at_depth, HasNoCopy}
 use Rattle.edit_map.specs.inner.Nearest.{PassesTo, PassesAll}
 use Rattle.edit_map.proofs.Climbs.{child-of-parent}
-use Rattle.edit_map.proofs.Tables.{alike, lookup-copy}
 
 up_to-cons : (i : ℕ) (p : Path) → up_to (i ∷ p) ≡ [] ∷ map (λ q. i ∷ q) (up_to p)
 up_to-cons i p = ap (λ ps. [] ∷ ps) (sym (map-append (λ q. i ∷ q) (above p) (p ∷ [])))
@@ -70,12 +68,9 @@ nearest-above m e p is =
     last-before (λ q. option_map (below_copy e q) (copy m (record { number = e.number; path = q }))) (above p) p (ap (option_map (below_copy e p)) is)
 
 -- ---- what a look-up says
-module _ (m : Mapping) (here e : Element) (number : e.number ≡ here.number) where
-  asked : copy m (record { number = e.number; path = here.path }) ≡ lookup (alike here) m
-  asked = ap (λ n. copy m (record { number = n; path = here.path })) number ∙ sym (lookup-copy m here)
-
-  pub nearest-found : (c : Element) (p : Path) → p ≡ here.path → Some c ≡ lookup (alike here) m → step_among m e (up_to here.path) ≡ Some (below_copy e p c)
-  nearest-found c p at is = nearest-here m e c here.path (asked ∙ sym is) ∙ ap (λ q. Some (below_copy e q c)) (sym at)
+pub nearest-found : (m : Mapping) (here e : Element) → e.number ≡ here.number → (c : Element) (p : Path) → p ≡ here.path → Some c ≡ copy m (address here) → step_among m e (up_to here.path) ≡ Some (below_copy e p c)
+nearest-found m here e number c p at is =
+    nearest-here m e c here.path (ap (λ n. copy m (record { number = n; path = here.path })) number ∙ sym is) ∙ ap (λ q. Some (below_copy e q c)) (sym at)
 
 pub parent-shorter : (e parent : Element) → Some parent ≡ parent_of e → (parent.number ≡ e.number) × (length parent.path < length e.path)
 parent-shorter e parent is =
@@ -120,12 +115,12 @@ module _ (m : Mapping) (e : Element) (p : Path) where
   skipped-all free = skipped-to 0 (omega arith) (λ k more less. free k less) ∙ nearest-above m e [] (free 0 (omega arith))
 
 -- a node that has no copy
-module _ (m : Mapping) (node : Element) (none : None ≡ lookup (alike node) m) where
+module _ (m : Mapping) (node : Element) (none : None ≡ copy m (address node)) where
   has-none : (e : Element) → e.number ≡ node.number → (k : ℕ) → k < length node.path + 1 → (k < length node.path → HasNoCopy m (at_depth (address node) k)) → HasNoCopy m (in_tree e.number (take k node.path))
   has-none e number k less free =
       rw number (elim (cases_lt k (length node.path)) [
         | inl above ↦ free above
-        | inr here ↦ ap (λ p. copy m (in_tree node.number p)) (take_all k node.path here) ∙ sym (lookup-copy m node) ∙ sym none
+        | inr here ↦ ap (λ p. copy m (in_tree node.number p)) (take_all k node.path here) ∙ sym none
       ])
 
   pub passed-all : ((k : ℕ) → k < length node.path → HasNoCopy m (at_depth (address node) k)) → PassesAll m node

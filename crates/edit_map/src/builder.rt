@@ -110,9 +110,7 @@ impl SyntaxMappingBuilder {
         ensures pairs { ArePairsUnder self.new }
     {
         test_pair(&self.parent, &input, &output)?;
-        self.pairs
-            .push((input, output))
-            .map_err(|_| MapError::Memory)?;
+        self.pairs.push((input, output))?;
         Ok(())
     }
 

@@ -8,7 +8,7 @@ ghost use Rattle.edit_map.specs.Following.{asked_paths, syntax_step, IsReached, 
 ghost use Rattle.edit_map.specs.inner.Nearest.{IsNearest};
 
 use crate::mapping::SyntaxMapping;
-use crate::stops::node_above;
+use crate::stops::{node_above, stop_above};
 use cst_core::{SyntaxElement, SyntaxNode};
 use std::alloc::{AllocError, Global};
 
@@ -40,7 +40,7 @@ impl SyntaxMapping {
         ensures is_mapping { IsMapping self.now }
     {
         // For the proof: what is true of every mapping.
-        let _ = &self.copies;
+        let _ = &self.pairs;
         // For the proof: the element is one of its tree.
         let _ = element.kind();
         // For the proof: its path leads to it.
@@ -60,7 +60,7 @@ impl SyntaxMapping {
     ) -> Result<Option<SyntaxElement>, AllocError>
         ensures { IfOk result (λ r. r ≡ syntax_step self.now element.now) }
     {
-        if self.copies.is_empty() {
+        if self.pairs.is_empty() {
             return Ok(None);
         }
         let Some(node) = lowest_node(alloc, element)? else {
@@ -72,8 +72,8 @@ impl SyntaxMapping {
         copy.element_at(alloc, &element.slots()[depth..])
     }
 
-    // The copy of the nearest mapped one of a node and those above it, and how many slots lead to that one. A stop has a copy, but
-    // for some after a refused call, so mostly two nodes are looked up.
+    // The copy of the nearest mapped one of a node and those above it, and how many slots lead to that one. At most two nodes are
+    // looked up.
     fn nearest_copy(
         &self,
         alloc: Global,
@@ -84,11 +84,11 @@ impl SyntaxMapping {
     {
         let mut here = node;
         'up: loop {
-            if let Some(copy) = self.copies.get(&here) {
+            if let Some(copy) = self.copy_of(&here) {
                 return Ok(Some((copy, here.slots().len())));
             }
             // No node above this one is this one, so only copies count.
-            let Some(depth) = self.stops.above(&here, &here) else {
+            let Some(depth) = stop_above(&self.numbers, &here, &here) else {
                 return Ok(None);
             };
             here = node_above(alloc, &here, depth)?;

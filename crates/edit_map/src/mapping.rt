@@ -2,15 +2,15 @@
 
 ghost use Rattle.std.specs.Prelude.{◌≡◌, length, [], ◌++◌, IfOk, OnOk, OnErr, reverse, option_map, MatchOption};
 ghost use Rattle.cst_core.specs.Element.{address};
-ghost use Rattle.edit_map.specs.Mapping.{IsPlace, copied, path_in};
+ghost use Rattle.edit_map.specs.Mapping.{IsPlace, copy, path_in};
 ghost use Rattle.edit_map.specs.Builder.{IsMadeOf, ArePairs, IsMapping};
 
 use crate::builder::SyntaxMappingBuilder;
 use crate::pairs::{push_clones, put_all};
-use crate::stops::{Stops, node_above, push_reversed};
+use crate::stops::{enter_all, node_above, number_of, push_reversed, stop_above};
 use cst_core::SyntaxNode;
+use path_table::PathTable;
 use std::alloc::{AllocError, Global};
-use std::collections::HashMap;
 use std::marker::Model;
 
 /// Which node of a younger tree is the copy of which one.
@@ -18,17 +18,18 @@ use std::marker::Model;
 /// A copy has a greater tree number than what it is the copy of, and the same shape. Nodes are told apart by tree number and
 /// path; the newest pair of a node wins, so no node has two copies.
 pub struct SyntaxMapping {
-    pub(crate) copies: HashMap<SyntaxNode, SyntaxNode>,
-    // It has each node that has a copy; after a refused call it may have more.
-    pub(crate) stops: Stops,
+    // No node has two pairs.
+    pub(crate) pairs: Vec<(SyntaxNode, SyntaxNode)>,
+    // The number of each node's pair: the way to it is the number of the node's tree, and then the slots that lead to the node.
+    pub(crate) numbers: PathTable<usize>,
 }
 
 // One call lets a value go, not one for each field.
 impl Drop for SyntaxMapping {
     fn drop(self) {
         let SyntaxMapping {
-            copies: _,
-            stops: _,
+            pairs: _,
+            numbers: _,
         } = self;
     }
 }
@@ -42,9 +43,9 @@ impl Model for SyntaxMapping {
 
     ghost coded = { mapping_code };
 
-    ghost view = { λ a. a.copies.entries };
+    ghost view = { λ a. a.pairs.items };
 
-    ghost invariant = { λ a. IsKept a.copies.entries a.stops };
+    ghost invariant = { λ a. IsKept a.pairs.items a.numbers };
 }
 
 impl SyntaxMapping {
@@ -54,8 +55,8 @@ impl SyntaxMapping {
         ensures is_mapping { IsMapping result }
     {
         SyntaxMapping {
-            copies: HashMap::new(alloc),
-            stops: Stops::new(alloc),
+            pairs: Vec::new(alloc),
+            numbers: PathTable::new(alloc),
         }
     }
 
@@ -64,7 +65,7 @@ impl SyntaxMapping {
         ensures count { result ≡ length self.now }
         ensures is_mapping { IsMapping self.now }
     {
-        self.copies.len()
+        self.pairs.len()
     }
 
     /// Adds the pairs of a builder. Where both map a node, the builder's pair wins.
@@ -91,9 +92,8 @@ impl SyntaxMapping {
         ensures is_mapping { IsMapping self.new }
     {
         // For the proof: what is true of every mapping.
-        let _ = &self.copies;
-        let pairs = other.into_pairs(alloc)?;
-        self.take_in(alloc, pairs)
+        let _ = &self.pairs;
+        self.take_in(alloc, other.into_pairs())
     }
 
     /// An equal mapping.
@@ -103,7 +103,7 @@ impl SyntaxMapping {
         ensures clone { IfOk result IsMapping }
     {
         // For the proof: what is true of every mapping.
-        let _ = &self.copies;
+        let _ = &self.pairs;
         let mut clone = SyntaxMapping::new(alloc);
         clone.take_in(alloc, self.cloned_pairs(alloc)?)?;
         Ok(clone)
@@ -125,12 +125,12 @@ impl SyntaxMapping {
         ensures is_mapping { IsMapping self.now }
     {
         // For the proof: what is true of every mapping.
-        let _ = &self.copies;
+        let _ = &self.pairs;
         let mut slots = Vec::new(alloc);
         let mut node = target.try_clone(alloc)?;
         'up: while node != *payload {
-            let copy = self.copy_or_self(&node);
-            let Some(depth) = self.stops.above(copy, payload) else {
+            let copy = self.copy_of(&node).unwrap_or(&node);
+            let Some(depth) = stop_above(&self.numbers, copy, payload) else {
                 return Ok(None);
             };
             push_reversed(&mut slots, &copy.slots()[depth..])?;
@@ -140,14 +140,12 @@ impl SyntaxMapping {
         Ok(Some(slots))
     }
 
-    // The copy of a node, or the node itself where it has none.
-    fn copy_or_self<'a>(&'a self, node: &'a SyntaxNode) -> &'a SyntaxNode
-        ensures { address result.now ≡ copied self.now (address node.now) }
+    // The copy of a node, if it has one.
+    pub(crate) fn copy_of(&self, node: &SyntaxNode) -> Option<&SyntaxNode>
+        ensures { option_map (λ c. c.now) result ≡ copy self.now (address node.now) }
     {
-        match self.copies.get(node) {
-            Some(copy) => copy,
-            None => node,
-        }
+        let number = number_of(&self.numbers, node)?;
+        Some(&self.pairs[number].1)
     }
 
     // Takes up pairs, one after another.
@@ -161,28 +159,26 @@ impl SyntaxMapping {
         ensures err { OnErr result (self.new ≡ self.old) }
         ensures is_mapping { IsMapping self.new }
     {
-        self.stops.insert_all(alloc, &pairs)?;
-        put_all(&mut self.copies, pairs)
+        let cells = enter_all(&mut self.numbers, alloc, &pairs)?;
+        self.pairs.reserve(pairs.len())?;
+        put_all(&mut self.pairs, &mut self.numbers, &cells, pairs);
+        Ok(())
     }
 
     // The pairs, in some order.
-    fn into_pairs(self, alloc: Global) -> Result<Vec<(SyntaxNode, SyntaxNode)>, AllocError>
-        ensures { IfOk result (λ v. IsMadeOf self (reverse v.items) × ArePairs v.items) }
+    fn into_pairs(self) -> Vec<(SyntaxNode, SyntaxNode)>
+        ensures { IsMadeOf self (reverse result.items) × ArePairs result.items }
     {
-        let mut pairs = Vec::with_capacity(alloc, self.copies.len())?;
-        let SyntaxMapping { copies, stops: _ } = self;
-        for pair in copies {
-            pairs.push(pair)?;
-        }
-        Ok(pairs)
+        let SyntaxMapping { pairs, numbers: _ } = self;
+        pairs
     }
 
     // Clones of the pairs, in some order.
     fn cloned_pairs(&self, alloc: Global) -> Result<Vec<(SyntaxNode, SyntaxNode)>, AllocError>
         ensures { IfOk result (λ v. IsMadeOf self.now (reverse v.items) × ArePairs v.items) }
     {
-        let mut pairs = Vec::with_capacity(alloc, self.copies.len())?;
-        for (input, output) in &self.copies {
+        let mut pairs = Vec::with_capacity(alloc, self.pairs.len())?;
+        for (input, output) in &self.pairs {
             push_clones(alloc, &mut pairs, input, output)?;
         }
         Ok(pairs)

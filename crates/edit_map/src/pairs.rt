@@ -1,12 +1,14 @@
-//! Pairs of a node and its copy, in lists and in tables.
+//! Pairs of a node and its copy, in lists in which no node has two.
 
-ghost use Rattle.std.specs.Prelude.{◌≡◌, ◌<◌, ◌≤◌, ◌+◌, [], ◌∷◌, ◌++◌, OnOk, OnErr, reverse};
-ghost use Rattle.std.specs.HashMap.{spare};
-ghost use Rattle.edit_map.specs.Builder.{IsMadeOf, AreDistinct};
+ghost use Rattle.std.specs.Prelude.{◌≡◌, ◌<◌, ◌≤◌, ◌+◌, [], ◌∷◌, ◌++◌, length, map, OnOk, reverse};
+ghost use Rattle.std.specs.Vec.{vec_len, vec_capacity};
+ghost use Rattle.cst_core.specs.Element.{Element};
+ghost use Rattle.edit_map.specs.Builder.{IsMadeOf};
+ghost use Rattle.edit_map.specs.inner.Climbing.{cell_of, IsNumbered};
 
 use cst_core::SyntaxNode;
+use path_table::PathTable;
 use std::alloc::{AllocError, Global};
-use std::collections::HashMap;
 
 // Puts clones of two nodes after the pairs of a list.
 pub(crate) fn push_clones(
@@ -23,30 +25,45 @@ pub(crate) fn push_clones(
     Ok(())
 }
 
-// Puts a pair in, in place of what the input had. The map has room for it.
-fn put(copies: &mut HashMap<SyntaxNode, SyntaxNode>, input: SyntaxNode, output: SyntaxNode)
-    requires { 0 < spare copies.old }
-    ensures made { IsMadeOf ((input, output) ∷ copies.old.entries) copies.new.entries }
-    ensures room { spare copies.old ≤ spare copies.new + 1 }
-    ensures distinct { AreDistinct copies.new.entries }
+// Puts a pair in, in place of the one that its first node has. Where it has none there is room for one more.
+fn put(
+    pairs: &mut Vec<(SyntaxNode, SyntaxNode)>,
+    numbers: &mut PathTable<usize>,
+    cell: usize,
+    pair: (SyntaxNode, SyntaxNode),
+)
+    requires has_room { vec_len pairs.old < vec_capacity pairs.old }
+    requires cell { cell_of numbers.old pair.0 ≡ Some cell }
+    requires numbered { IsNumbered pairs.old.items numbers.old }
+    ensures made { IsMadeOf (pair ∷ pairs.old.items) pairs.new.items }
+    ensures numbered { IsNumbered pairs.new.items numbers.new }
+    ensures cells { (e : Element) → cell_of numbers.new e ≡ cell_of numbers.old e }
+    ensures len { vec_len pairs.new ≤ vec_len pairs.old + 1 }
+    ensures capacity { vec_capacity pairs.new ≡ vec_capacity pairs.old }
 {
-    let _ = copies.remove(&input);
-    let inserted: Result<_, _> = copies.insert(input, output);
-    let _ = inserted.unwrap();
+    match numbers.at(Some(cell)) {
+        Some(number) => pairs[number] = pair,
+        None => {
+            numbers.set(cell, pairs.len());
+            pairs.push_reserved(pair);
+        }
+    }
 }
 
-// Puts pairs in, one after another.
+// Puts pairs in, one after another. There is room for all of them.
 pub(crate) fn put_all(
-    copies: &mut HashMap<SyntaxNode, SyntaxNode>,
-    pairs: Vec<(SyntaxNode, SyntaxNode)>,
-) -> Result<(), AllocError>
-    ensures ok { OnOk result (IsMadeOf (reverse pairs.items ++ copies.old.entries) copies.new.entries) }
-    ensures err { OnErr result (copies.new.entries ≡ copies.old.entries) }
-    ensures distinct { AreDistinct copies.new.entries }
+    pairs: &mut Vec<(SyntaxNode, SyntaxNode)>,
+    numbers: &mut PathTable<usize>,
+    cells: &[usize],
+    new: Vec<(SyntaxNode, SyntaxNode)>,
+)
+    requires has_room { vec_len pairs.old + length new.items ≤ vec_capacity pairs.old }
+    requires cells { map Some cells.now ≡ map (λ pair. cell_of numbers.old pair.0) new.items }
+    requires numbered { IsNumbered pairs.old.items numbers.old }
+    ensures made { IsMadeOf (reverse new.items ++ pairs.old.items) pairs.new.items }
+    ensures numbered { IsNumbered pairs.new.items numbers.new }
 {
-    copies.reserve(pairs.len())?;
-    for (input, output) in pairs {
-        put(copies, input, output);
+    for (cell, pair) in cells.iter().zip(new) {
+        put(pairs, numbers, *cell, pair);
     }
-    Ok(())
 }

@@ -1,20 +1,13 @@
-//! Where the nodes are that have copies, so that a way up stops there alone.
+//! The numbers of mapped nodes, by the number of their tree and then the slots that lead to them. A way up stops at these alone.
 
-ghost use Rattle.std.specs.Prelude.{◌≡◌, ◌≢◌, ◌≤◌, ◌<◌, ◌++◌, length, take, reverse, false, IfOk, OnOk};
-ghost use Rattle.cst_core.specs.Element.{Address, address, element_at};
-ghost use Rattle.path_table.specs.inner.PathTable.{IsTree};
-ghost use Rattle.edit_map.specs.inner.Climbing.{IsFree, at_depth, IsStopAbove, StopsAll};
+ghost use Rattle.std.specs.Prelude.{◌≡◌, ◌≢◌, ◌≤◌, ◌<◌, ◌++◌, length, map, take, reverse, false, Some, IfOk, OnOk};
+ghost use Rattle.cst_core.specs.Element.{address, element_at};
+ghost use Rattle.path_table.specs.inner.PathTable.{KeepsPlaces, SameValues, IsTree};
+ghost use Rattle.edit_map.specs.inner.Climbing.{number_at, cell_of, at_depth, IsStopAbove};
 
 use cst_core::{SyntaxElement, SyntaxNode};
 use path_table::PathTable;
 use std::alloc::{AllocError, Global};
-
-/// Nodes by the number of their tree and the slots that lead to them. It has each node that has a copy, and may have others.
-#[derive(Drop)]
-pub(crate) struct Stops {
-    // The tree's number comes first on the path, and then come the slots.
-    cells: PathTable<()>,
-}
 
 // Whether the node above another one at this depth may be a payload.
 fn may_be(payload: &SyntaxNode, node: &SyntaxNode, depth: usize) -> bool
@@ -56,57 +49,69 @@ pub(crate) fn node_above(
     }
 }
 
-impl Stops {
-    pub(crate) fn new(alloc: Global) -> Stops
-        ensures { IsTree result.cells }
-    {
-        Stops {
-            cells: PathTable::new(alloc),
-        }
-    }
+// The cell of a node, at which a number can be set from now on.
+fn enter(
+    numbers: &mut PathTable<usize>,
+    alloc: Global,
+    node: &SyntaxNode,
+) -> Result<usize, AllocError>
+    requires { IsTree numbers.old }
+    ensures entered { IfOk result (λ n. cell_of numbers.new node.now ≡ Some n) }
+    ensures places { KeepsPlaces numbers.old numbers.new }
+    ensures values { SameValues numbers.old numbers.new }
+    ensures tree { IsTree numbers.new }
+{
+    let mut path = Vec::with_capacity(alloc, node.slots().len() + 1)?;
+    path.push(node.tree() as usize)?;
+    path.extend_from_slice(node.slots())?;
+    numbers.enter(&path)
+}
 
-    fn insert(&mut self, alloc: Global, node: &SyntaxNode) -> Result<(), AllocError>
-        requires { IsTree self.old.cells }
-        ensures free { (x : Address) → IsFree self.new x → IsFree self.old x }
-        ensures ok { OnOk result (IsFree self.new (address node.now) → ⊥) }
-        ensures tree { IsTree self.new.cells }
-    {
-        let mut path = Vec::with_capacity(alloc, node.slots().len() + 1)?;
-        path.push(node.tree() as usize)?;
-        path.extend_from_slice(node.slots())?;
-        self.cells.insert(&path, ())
+// The cells of the first nodes of these pairs.
+pub(crate) fn enter_all(
+    numbers: &mut PathTable<usize>,
+    alloc: Global,
+    pairs: &[(SyntaxNode, SyntaxNode)],
+) -> Result<Vec<usize>, AllocError>
+    requires { IsTree numbers.old }
+    ensures cells { IfOk result (λ v. map Some v.items ≡ map (λ pair. cell_of numbers.new pair.0) pairs.now) }
+    ensures values { SameValues numbers.old numbers.new }
+    ensures tree { IsTree numbers.new }
+{
+    let mut cells = Vec::with_capacity(alloc, pairs.len())?;
+    for (input, _) in pairs {
+        cells.push(enter(numbers, alloc, input)?)?;
     }
+    Ok(cells)
+}
 
-    /// Takes up the first nodes of these pairs.
-    pub(crate) fn insert_all(
-        &mut self,
-        alloc: Global,
-        pairs: &[(SyntaxNode, SyntaxNode)],
-    ) -> Result<(), AllocError>
-        requires { IsTree self.old.cells }
-        ensures free { (x : Address) → IsFree self.new x → IsFree self.old x }
-        ensures ok { OnOk result (StopsAll self.new pairs.now) }
-        ensures tree { IsTree self.new.cells }
-    {
-        for (input, _) in pairs {
-            self.insert(alloc, input)?;
-        }
-        Ok(())
+// The number of a node, if it has one.
+pub(crate) fn number_of(numbers: &PathTable<usize>, node: &SyntaxNode) -> Option<usize>
+    ensures { result ≡ number_at numbers.now (address node.now) }
+{
+    let mut cell = numbers.below(numbers.top(), node.tree() as usize);
+    for slot in node.slots() {
+        cell = numbers.below(cell, *slot);
     }
+    numbers.at(cell)
+}
 
-    /// How many slots lead to the nearest node above this one that may have a copy or be the payload; `None` where there is none.
-    /// Each slot on the way is looked at once.
-    pub(crate) fn above(&self, node: &SyntaxNode, payload: &SyntaxNode) -> Option<usize>
-        ensures { IsStopAbove self.now node.now payload.now result }
-    {
-        let mut stop = None;
-        let mut cell = self.cells.below(self.cells.top(), node.tree() as usize);
-        for (depth, slot) in node.slots().iter().enumerate() {
-            if self.cells.at(cell).is_some() || may_be(payload, node, depth) {
-                stop = Some(depth);
-            }
-            cell = self.cells.below(cell, *slot);
+// How many slots lead to the nearest node above this one that has a number or may be the payload; `None` where there is none. Each
+// slot on the way is looked at once.
+pub(crate) fn stop_above(
+    numbers: &PathTable<usize>,
+    node: &SyntaxNode,
+    payload: &SyntaxNode,
+) -> Option<usize>
+    ensures { IsStopAbove numbers.now node.now payload.now result }
+{
+    let mut stop = None;
+    let mut cell = numbers.below(numbers.top(), node.tree() as usize);
+    for (depth, slot) in node.slots().iter().enumerate() {
+        if numbers.at(cell).is_some() || may_be(payload, node, depth) {
+            stop = Some(depth);
         }
-        stop
+        cell = numbers.below(cell, *slot);
     }
+    stop
 }

@@ -14,7 +14,8 @@
 --     value-set                     a list of values, after one was put in it
 --     place-is, place-parts, at-place, grown-places      a path leads to a cell with room, which has the path's value; so it does where there is more
 --     put-tree, put-places, entered      a value put at a cell; at the cell of a path
-use Rattle.std.specs.Prelude.{◌≡◌, ◌≢◌, ℕ, zero, suc, ◌+◌, ◌<◌, ◌≤◌, true, false, ◌&&◌, cond, nat_eq, [], ◌∷◌, ◌++◌, length, List, slice_get, slice_set, option_and_then, option_map, unwrap_or, is_some, if◌then◌else◌, Option, Some, None, IfSome, Result, Ok, Err, IfOk, OnErr, Vec, refl}
+--     places-parted, places-kept    the places of a list: the first and the others; where those that there are stay
+use Rattle.std.specs.Prelude.{◌≡◌, ◌≢◌, ℕ, zero, suc, ◌+◌, ◌<◌, ◌≤◌, true, false, ◌&&◌, cond, nat_eq, [], ◌∷◌, ◌++◌, length, List, map, slice_get, slice_set, option_and_then, option_map, unwrap_or, is_some, if◌then◌else◌, Option, Some, None, IfSome, Result, Ok, Err, IfOk, OnErr, Vec, refl}
 use Rattle.std.specs.Global.{Global}
 use Rattle.std.specs.List.{fold}
 use Rattle.std.specs.Map.{lookup}
@@ -409,3 +410,18 @@ module _ {V : Type 0} (t : PathTable V) (tree : IsTree t) where
             | inl here ↦ ap (value_in u) (ap (cell_at t) (sym ((decides p q).0 here)) ∙ leads) ∙ put-value m ∙ ap (λ b. cond b (Some v) (value_in t (Some m))) (eq-eqb m m refl) ∙ sym (ap (λ b. cond b (Some v) (value_by_path t q)) here)
             | inr other ↦ at-other q other ∙ sym (ap (λ b. cond b (Some v) (value_by_path t q)) other)
           ])
+
+-- ---- places of a list
+pub places-parted : {X : Type 0} (f : X → Option ℕ) (n : ℕ) (ns : List ℕ) (x : X) (xs : List X) → map (λ k. Some k) (n ∷ ns) ≡ map f (x ∷ xs) → (f x ≡ Some n) × (map (λ k. Some k) ns ≡ map f xs)
+places-parted f n ns x xs is =
+    let first : f x ≡ Some n = cc in
+    let rest : map (λ k. Some k) ns ≡ map f xs = cc in
+    (first, rest)
+
+pub places-kept : {X : Type 0} (f g : X → Option ℕ) → ((x : X) (n : ℕ) → f x ≡ Some n → g x ≡ Some n) → (ns : List ℕ) (xs : List X) → map (λ k. Some k) ns ≡ map f xs → map (λ k. Some k) ns ≡ map g xs
+places-kept f g keep [] [] is = refl
+places-kept f g keep [] (x ∷ xs) is = cc
+places-kept f g keep (n ∷ ns) [] is = cc
+places-kept f g keep (n ∷ ns) (x ∷ xs) is =
+    let parts = places-parted f n ns x xs is in
+    ap₂ (λ y ys. y ∷ ys) (sym (keep x n parts.0)) (places-kept f g keep ns xs parts.1)

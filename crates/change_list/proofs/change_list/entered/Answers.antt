@@ -3,7 +3,7 @@ use Rattle.std.proofs.lemmas.List.{map-append, take_more}
 use Rattle.cst_core.specs.SyntaxElement.{element_of}
 use Rattle.change_list.specs.inner.Indexing.{place_of}
 use Rattle.path_table.specs.inner.PathTable.{place_at}
-use Rattle.change_list.proofs.Addresses.{places-kept}
+use Rattle.path_table.proofs.PathTables.{places-kept}
 use Rattle.change_list.proofs.change_list.entered.Goals as goal
 
 pub loop-element-preserved : goal.loop-element-preserved

@@ -1,45 +1,33 @@
-use Rattle.std.proofs.Common.{◌≡◌, ◌+◌, ◌++◌, [], length, reverse, ap, sym, ◌∙◌, arith, append_assoc, append-nil}
-use Rattle.std.proofs.lemmas.List.{reverse-append}
-use Rattle.edit_map.specs.Builder.{IsMadeOf}
-use Rattle.edit_map.proofs.Distinct.{distinct-keys}
-use Rattle.edit_map.proofs.Tables.{empty, made-itself, made-more, made-again, made-reordered}
+use Rattle.std.proofs.Common.{◌≡◌, ◌∷◌, [], length, reverse, ap, sym, ◌∙◌, inl, inr, arith}
+use Rattle.std.specs.Prelude.{◌⊎◌}
+use Rattle.path_table.proofs.PathTables.{places-parted, places-kept}
+use Rattle.cst_core.specs.Element.{Element}
+use Rattle.edit_map.specs.inner.Climbing.{cell_of}
+use Rattle.edit_map.proofs.Tables.{made-again, made-itself, reverse-first, cells-end}
 use Rattle.edit_map.proofs.pairs.put_all.Goals as goal
 
-pub put-requires : goal.put-requires
-put-requires c =
-    let more : length c.loop-input.input-iterator.rest.items ≡ length c.next.new.self.rest.items + 1 = ap length c.in-Some.ensures.steps.0 ∙ omega arith in
-    omega (arith, c.loop-input.invariant.room)
-
-pub loop-input-preserved : goal.loop-input-preserved
-loop-input-preserved c =
-    let more : length c.loop-input.input-iterator.rest.items ≡ length c.next.new.self.rest.items + 1 = ap length c.in-Some.ensures.steps.0 ∙ omega arith in
+pub loop-cell-preserved : goal.loop-cell-preserved
+loop-cell-preserved c =
+    let rest = c.next.new.self.b.rest.items in
+    let pair = c.in-Some.pair in
+    let was : Element × Element → _ = λ p. cell_of c.loop-cell.numbers p.0 in
+    let now : Element × Element → _ = λ p. cell_of c.put.new.numbers p.0 in
+    let steps = c.in-Some.ensures.steps in
+    let long : length c.loop-cell.cell-iterator.b.rest.items ≡ length (pair ∷ rest) = ap length steps.1.0 in
+    let cells = rw (steps.0, steps.1.0) at c.loop-cell.invariant.cells in
     record {
-      room = omega (arith, c.loop-input.invariant.room, c.put.ensures.room);
-      all = rw append_assoc (ap (λ xs. c.loop-input.yielded ++ xs) (sym c.in-Some.ensures.steps.0) ∙ c.loop-input.invariant.all);
-      made = rw reverse-append (made-more (c.in-Some.input, c.in-Some.output) (reverse c.loop-input.yielded ++ c.reserve.new.self.entries) c.loop-input.copies.entries c.put.new.copies.entries c.loop-input.invariant.made c.put.ensures.made);
-      distinct = c.put.ensures.distinct;
+      numbered = c.put.ensures.numbered;
+      has_room = omega (arith, long, c.loop-cell.invariant.has_room, c.put.ensures.len, c.put.ensures.capacity);
+      cells = places-kept was now (λ x n at. c.put.ensures.cells x.0 ∙ at) c.next.new.self.a.rest.now rest (places-parted was c.in-Some.cell.now c.next.new.self.a.rest.now pair rest cells).1;
+      made = λ m made. c.loop-cell.invariant.made m (rw (steps.1.0, reverse-first pair rest c.loop-cell.pairs.items) (made-again (reverse rest) (pair ∷ c.loop-cell.pairs.items) c.put.new.pairs.items m c.put.ensures.made made));
     }
 
-pub loop-input-init : goal.loop-input-init
-loop-input-init c =
-    let all : c.into_iter-input-iterator.result.rest.items ≡ c.args.pairs.items = c.into_iter-input-iterator.ensures.into_iter_gives.0 in
-    record {
-      room = omega (arith, ap length all, c.args.pairs.ok.0, c.len.ensures, c.in_ok-reserve.ensures.ok);
-      all = all;
-      made = made-itself c.reserve.new.self.entries;
-      distinct = distinct-keys c.reserve.new.self.entries c.reserve.ensures.unique;
-    }
-
-pub returns-clause-ok : goal.returns-clause-ok
-returns-clause-ok c =
-    let none : c.loop-input.input-iterator.rest.items ≡ [] = empty c.loop-input.input-iterator.rest.items (sym c.loop-input.input-iterator.rest.ok.0 ∙ c.in-None.ensures.steps.0) in
-    let all : c.loop-input.yielded ≡ c.args.pairs.items = sym (ap (λ xs. c.loop-input.yielded ++ xs) none ∙ append-nil _) ∙ c.loop-input.invariant.all in
-    let made : IsMadeOf (reverse c.args.pairs.items ++ c.reserve.new.self.entries) c.loop-input.copies.entries = rw (← all) c.loop-input.invariant.made in
-    let moved = c.reserve.ensures.entries in
-    made-again (reverse c.args.pairs.items) c.args.copies.now.entries c.reserve.new.self.entries c.loop-input.copies.entries (made-reordered c.args.copies.now.entries c.reserve.new.self.entries moved.0 moved.2) made
-
-pub returns-in_err-reserve-clause-distinct : goal.returns-in_err-reserve-clause-distinct
-returns-in_err-reserve-clause-distinct c = distinct-keys c.reserve.new.self.entries c.reserve.ensures.unique
-
-pub returns-clause-distinct : goal.returns-clause-distinct
-returns-clause-distinct c = c.loop-input.invariant.distinct
+pub returns-clause-made : goal.returns-clause-made
+returns-clause-made c =
+    let was : Element × Element → _ = λ p. cell_of c.loop-cell.numbers p.0 in
+    let ends : (length c.loop-cell.cell-iterator.a.rest.now ≡ 0) ⊎ (length c.loop-cell.cell-iterator.b.rest.items ≡ 0) = elim c.in-None.ensures.steps [
+      | inl first ↦ inl first.1.0
+      | inr second ↦ inr (sym c.loop-cell.cell-iterator.b.rest.ok.0 ∙ second.1.0)
+    ] in
+    let none : c.loop-cell.cell-iterator.b.rest.items ≡ [] = cells-end was c.loop-cell.cell-iterator.a.rest.now c.loop-cell.cell-iterator.b.rest.items c.loop-cell.invariant.cells ends in
+    c.loop-cell.invariant.made c.loop-cell.pairs.items (rw none (made-itself c.loop-cell.pairs.items))

@@ -1,5 +1,5 @@
-use Rattle.std.proofs.Common.{◌≡◌, ◌++◌}
+use Rattle.std.proofs.Common.{◌≡◌, take}
 use Rattle.edit_map.proofs.mapping.SyntaxMapping.cloned_pairs.Given as goal
 
 abbrev pub invariant-loop-input : goal.invariant-loop-input
-invariant-loop-input l = l.pairs.items ++ l.input-iterator ≡ l.self
+invariant-loop-input l = l.pairs.items ≡ take l.input-index l.self

@@ -1,4 +1,6 @@
-use Rattle.std.proofs.Common.{◌≡◌, [], rules, length, ap, sym, arith}
+use Rattle.std.proofs.Common.{◌≡◌, [], rules, length, ap, sym, ◌∙◌, arith}
+use Rattle.std.specs.Vec.{vec_len}
+use Rattle.std.proofs.lemmas.Bool.{eqb-true}
 use Rattle.std.specs.Prelude.{option_and_then}
 use Rattle.std.proofs.lemmas.Grind.{common_steps}
 use Rattle.cst_core.specs.SyntaxElement.{element_of, syntax_at}
@@ -21,7 +23,7 @@ slice_bounds-element_at-start c =
 
 pub returns-then-is_empty : goal.returns-then-is_empty
 returns-then-is_empty c =
-    let none : c.args.self.now ≡ [] = rw (← c.self.view_is) (empty c.self.inside.copies.entries (c.is_empty.ensures.0 c.if-is_empty.true)) in
+    let none : c.args.self.now ≡ [] = rw (← c.self.view_is) (empty c.self.inside.pairs.items (omega (arith, eqb-true (vec_len c.self.inside.pairs) 0 (sym c.is_empty.ensures ∙ c.if-is_empty.true), c.self.inside.pairs.ok.0))) in
     sym (ap (option_and_then (λ g. syntax_at g g.path)) (none-mapped c.args.self.now (element_of c.args.element.now) (asked_paths c.args.element.now) none))
 
 pub returns-in_default : goal.returns-in_default

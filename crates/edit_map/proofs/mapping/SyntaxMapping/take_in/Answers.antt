@@ -1,24 +1,32 @@
-use Rattle.edit_map.specs.inner.Climbing.{StopsAll}
-use Rattle.edit_map.proofs.Making.{either-mapping}
-use Rattle.edit_map.proofs.Passing.{none-kept}
+use Rattle.edit_map.proofs.Making.{made-pairs}
+use Rattle.edit_map.proofs.Numbered.{numbered-alike, numbered-mapping}
 use Rattle.edit_map.proofs.mapping.SyntaxMapping.take_in.Goals as goal
 
 pub invariant_of-self : goal.invariant_of-self
 invariant_of-self c = record {
   mapping = c.self.invariant.mapping;
-  tree = c.insert_all.ensures.tree;
-  free = λ x free. c.self.invariant.free x (c.insert_all.ensures.free x free);
+  numbered = numbered-alike c.self.inside.pairs.items c.self.inside.numbers c.enter_all.new.numbers c.self.invariant.numbered c.enter_all.ensures.tree c.enter_all.ensures.values;
 }
 
-pub returns-clause-is_mapping : goal.returns-clause-is_mapping
-returns-clause-is_mapping c =
-    either-mapping c.args.pairs.items c.self.inside.copies.entries c.put_all.new.copies.entries c.requires c.self.invariant.mapping.pairs c.put_all.ensures.distinct c.put_all.result c.put_all.ensures.ok c.put_all.ensures.err
+pub invariant_of-self-in_err-reserve : goal.invariant_of-self-in_err-reserve
+invariant_of-self-in_err-reserve c =
+    rw c.reserve.ensures.items (record {
+      mapping = c.self.invariant.mapping;
+      numbered = numbered-alike c.self.inside.pairs.items c.self.inside.numbers c.enter_all.new.numbers c.self.invariant.numbered c.enter_all.ensures.tree c.enter_all.ensures.values;
+    })
+
+pub put_all-requires-clause-numbered : goal.put_all-requires-clause-numbered
+put_all-requires-clause-numbered c =
+    rw c.reserve.ensures.items (numbered-alike c.self.inside.pairs.items c.self.inside.numbers c.enter_all.new.numbers c.self.invariant.numbered c.enter_all.ensures.tree c.enter_all.ensures.values)
 
 pub invariant_of-self-2 : goal.invariant_of-self-2
 invariant_of-self-2 c =
-    let taken : StopsAll c.insert_all.new.self c.args.pairs.items = rw (← c.deref.ensures.value) c.in_ok-insert_all.ensures.ok in
+    let n = c.put_all.new.pairs.items in
+    let made = rw c.reserve.ensures.items at c.put_all.ensures.made in
     record {
-      mapping = returns-clause-is_mapping c;
-      tree = c.insert_all.ensures.tree;
-      free = none-kept c.args.pairs.items c.self.inside.copies.entries c.put_all.new.copies.entries c.self.inside.stops c.insert_all.new.self taken c.self.invariant.free c.insert_all.ensures.free c.put_all.result c.put_all.ensures.ok c.put_all.ensures.err;
+      mapping = numbered-mapping n c.put_all.new.numbers c.put_all.ensures.numbered (made-pairs c.args.pairs.items c.self.inside.pairs.items n c.requires c.self.invariant.mapping.pairs made);
+      numbered = c.put_all.ensures.numbered;
     }
+
+pub returns-clause-is_mapping : goal.returns-clause-is_mapping
+returns-clause-is_mapping c = (invariant_of-self-2 c).mapping

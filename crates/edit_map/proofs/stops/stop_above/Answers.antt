@@ -1,6 +1,6 @@
 use Rattle.std.proofs.Common.{rules, arith}
 use Rattle.std.proofs.lemmas.Grind.{common_steps}
-use Rattle.edit_map.proofs.stops.Stops.above.Goals as goal
+use Rattle.edit_map.proofs.stops.stop_above.Goals as goal
 
 pub returns : goal.returns
 returns c = search rules
