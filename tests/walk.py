@@ -15,7 +15,7 @@ from pathlib import Path
 
 ROOT = Path(__file__).resolve().parent.parent
 # The walks, and how many functions each has at most: above the two lowest crates, and in them. These numbers only fall.
-WALKS = {"SyntaxEditor::finish": (112, 62), "EditRun::step": (44, 43)}
+WALKS = {"SyntaxEditor::finish": (100, 62), "EditRun::step": (43, 43)}
 BELOW = {"green_tree", "cst_core"}
 ENGINES = {"E": "OnePassEngine"}
 LIBRARIES = [

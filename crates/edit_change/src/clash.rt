@@ -1,12 +1,10 @@
 //! Which two changes share a target: a sweep over their aims says whether any two do, and only where two do the first are looked for.
 
-ghost use Rattle.std.specs.Prelude.{◌≡◌, ◌++◌, ◌+◌, ◌<◌, ℕ, true, false, List, length, All, IfOk};
-ghost use Rattle.edit_change.specs.Nesting.{clashes, first_clash};
+ghost use Rattle.std.specs.Prelude.{◌≡◌, ◌++◌, List, All, IfOk};
+ghost use Rattle.edit_change.specs.Nesting.{first_clash};
 ghost use Rattle.edit_change.specs.declared.change.Change.{Change};
-ghost use Rattle.std.specs.Option.{option_map_or};
-ghost use Rattle.cst_core.specs.Path.{last_item};
-ghost use Rattle.edit_change.specs.inner.Aimed.{numbered, aims_of};
-ghost use Rattle.edit_change.specs.inner.Clash.{shares, ClashesBelow};
+ghost use Rattle.edit_change.specs.inner.Aimed.{aims_of};
+ghost use Rattle.edit_change.specs.inner.Clash.{ClashesBelow};
 ghost use Rattle.edit_change.specs.inner.DocumentOrder.{FitsSome, AreSorted};
 
 use crate::aimed::{Aimed, close};
@@ -24,41 +22,17 @@ fn has_clash(alloc: Global, aims: &[Aimed<'_>], below: usize) -> Result<bool, Al
     for aim in aims {
         if aim.change < below && aim.is_over() {
             close(&mut open, Some(aim.path));
-            if shares_last(&open, aim) {
+            let shared = match open.last() {
+                Some(last) => last.shares(aim),
+                None => false,
+            };
+            if shared {
                 return Ok(true);
             }
             open.push(*aim)?;
         }
     }
     Ok(false)
-}
-
-// Whether the last that is open shares a target with an aim.
-fn shares_last(regions: &[Aimed<'_>], aim: &Aimed<'_>) -> bool
-    ensures { result ≡ option_map_or (λ o. shares o.1 (numbered aim.now).1) (last_item (aims_of regions.now)) false }
-{
-    match regions.last() {
-        Some(last) => last.shares(aim),
-        None => false,
-    }
-}
-
-// The least number of a change that shares a target with this one.
-fn first_of_second(own: &[Change], other: &[Change], second: usize) -> usize
-    requires there { second < length own.now + length other.now }
-    requires fit { All FitsSome (own.now ++ other.now) }
-    requires clash { (i : ℕ) × (i < second) × (clashes (own.now ++ other.now) i second ≡ true) }
-    ensures before { result < second }
-    ensures clash { clashes (own.now ++ other.now) result second ≡ true }
-    ensures first { (i : ℕ) → i < result → clashes (own.now ++ other.now) i second ≡ false }
-{
-    let aim = numbered_aim(change_in_both(own, other, second), second);
-    for first in 0..second {
-        if numbered_aim(change_in_both(own, other, first), first).shares(&aim) {
-            return first;
-        }
-    }
-    unreachable!()
 }
 
 /// The first two changes with a target in common, by the second and then by the first, of two lists that are numbered on from the
@@ -90,7 +64,13 @@ pub fn clash_of(
             second = middle;
         }
     }
-    Ok(Some((first_of_second(own, other, second), second)))
+    let aim = numbered_aim(change_in_both(own, other, second), second);
+    for first in 0..second {
+        if numbered_aim(change_in_both(own, other, first), first).shares(&aim) {
+            return Ok(Some((first, second)));
+        }
+    }
+    unreachable!()
 }
 
 /// The same of changes that are not sorted yet.

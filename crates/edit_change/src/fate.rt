@@ -3,10 +3,10 @@
 ghost use Rattle.std.specs.Prelude.{◌≡◌, ◌<◌, [], cond, length, map, option_map, None, All, IfOk, IfSome};
 ghost use Rattle.std.specs.Option.{option_map_or};
 ghost use Rattle.cst_core.specs.Element.{Element};
-ghost use Rattle.cst_core.specs.Path.{above, up_to};
+ghost use Rattle.cst_core.specs.Path.{up_to};
 ghost use Rattle.edit_change.specs.Change.{targets};
 ghost use Rattle.edit_change.specs.Fits.{Fits};
-ghost use Rattle.edit_change.specs.Nesting.{first_clash, region, surroundings, is_keeping};
+ghost use Rattle.edit_change.specs.Nesting.{first_clash, region, surroundings};
 ghost use Rattle.edit_change.specs.inner.Aimed.{numbered, aims_of};
 ghost use Rattle.edit_change.specs.inner.DocumentOrder.{AreSorted};
 ghost use Rattle.edit_change.specs.inner.Fate.{owner_in, is_dropped_in, fate};
@@ -52,16 +52,6 @@ impl Fate {
     }
 }
 
-// The path of the parent; a root has none.
-fn above(path: &[usize]) -> Option<&[usize]>
-    ensures { option_map_or (λ p. up_to p.now) result [] ≡ above path.now }
-{
-    match path.split_last() {
-        Some((_, parent)) => Some(parent),
-        None => None,
-    }
-}
-
 impl Change {
     /// Whether what it replaces is a region, of which the insides are taken away or move along. A replaced token alone is none.
     pub(crate) fn has_region(&self) -> bool
@@ -82,27 +72,20 @@ impl Change {
     pub(crate) fn innermost(&self) -> Option<&[usize]>
         ensures { option_map_or (λ p. up_to p.now) result [] ≡ surroundings self.now }
     {
-        match self {
-            Change::Insert(position, _) => Some(position.anchor()),
-            Change::InsertAll(position, _) => Some(position.anchor()),
-            Change::Replace(target, _) => above(target.slots()),
-            Change::ReplaceWithMany(target, _) => above(target.slots()),
-            Change::ReplaceAll(first, _, _) => above(first.slots()),
-        }
-    }
-
-    /// Whether what aims into the region moves along with it: a node is replaced by a node.
-    pub(crate) fn is_keeping(&self) -> bool
-        ensures { result ≡ is_keeping self.now }
-    {
-        match self {
-            Change::Replace(SyntaxElement::Node(_), Some(SyntaxElement::Node(_))) => true,
-            _ => false,
-        }
+        let target = match self {
+            Change::Insert(position, _) => return Some(position.anchor()),
+            Change::InsertAll(position, _) => return Some(position.anchor()),
+            Change::Replace(target, _) => target.slots(),
+            Change::ReplaceWithMany(target, _) => target.slots(),
+            Change::ReplaceAll(first, _, _) => first.slots(),
+        };
+        let (_, parent) = target.split_last()?;
+        Some(parent)
     }
 }
 
-// The fate of what lies in the region of this aim's change and in no deeper one; in no region, if there is none.
+// The fate of what lies in the region of this aim's change and in no deeper one; in no region, if there is none. It moves along where a node
+// is replaced by a node.
 fn fate_inside(changes: &[Change], fates: &[Fate], region: Option<&Aimed<'_>>) -> Fate
     requires there { IfSome region (λ a. a.now.change < length changes.now) }
     requires told { length fates.now ≡ length changes.now }
@@ -112,9 +95,10 @@ fn fate_inside(changes: &[Change], fates: &[Fate], region: Option<&Aimed<'_>>) -
         return Fate::Independent;
     };
     let number = region.change;
-    if !changes[number].is_keeping() {
+    let Change::Replace(SyntaxElement::Node(_), Some(SyntaxElement::Node(_))) = &changes[number]
+    else {
         return Fate::Dropped;
-    }
+    };
     match fates[number] {
         Fate::Independent => Fate::Owned(number),
         Fate::Dropped => Fate::Dropped,

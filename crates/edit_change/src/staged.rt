@@ -22,17 +22,6 @@ pub fn owner_of(changes: &[Change], fates: &[Fate], number: usize) -> Option<usi
     fates[number].owner()
 }
 
-// The place of an owner's target, from a table.
-fn place_at(places: &[Option<Vec<usize>>], owner: usize) -> &[usize]
-    requires { owner < length places.now }
-    ensures { result.now ≡ places_in places.now owner }
-{
-    match &places[owner] {
-        Some(place) => place.as_slice(),
-        None => &[],
-    }
-}
-
 /// The path from which a change aims: in the payload of `owner`, its owner, if it has one, and else in the tree. `places` has the place of
 /// each owner's target in its payload.
 pub fn staged_path(
@@ -53,7 +42,10 @@ pub fn staged_path(
         return Vec::from_slice(alloc, path);
     };
     let target = aim_path(&changes[owner]);
-    let place = place_at(places, owner);
+    let place = match &places[owner] {
+        Some(place) => place.as_slice(),
+        None => &[],
+    };
     let mut moved = Vec::from_slice(alloc, place)?;
     if let Some(below) = path.get(target.len()..) {
         moved.extend_from_slice(below)?;

@@ -4,10 +4,8 @@ ghost use Rattle.std.specs.Prelude.{ℕ, true, ◌≡◌, ◌<◌, map, length, 
 ghost use Rattle.edit_change.specs.inner.Fate.{fate};
 ghost use Rattle.edit_change.specs.Nesting.{is_keeping};
 ghost use Rattle.edit_change.specs.Places.{ArePlaces};
-ghost use Rattle.edit_map.specs.Mapping.{path_in};
 ghost use Rattle.edit_change.specs.inner.OwnerPlaces.{path_at, places_in};
-ghost use Rattle.edit_plan.specs.inner.PlaceTables.{IsPlaceOf, IsPlaced};
-ghost use Rattle.edit_plan.specs.inner.PlaceTables.{IsFoundPlace, PlacesStay, TellsPlace};
+ghost use Rattle.edit_plan.specs.inner.PlaceTables.{IsPlaced, IsFoundPlace, PlacesStay, TellsPlace};
 ghost use Rattle.edit_plan.specs.inner.PlacesRefusal.{PlacesRefuse};
 ghost use Rattle.edit_change.specs.declared.change.Change.{Change};
 
@@ -18,25 +16,7 @@ use edit_map::SyntaxMapping;
 use edit_map::laws::place_is_unique;
 use std::alloc::{AllocError, Global};
 
-// The place of an owner's target in its payload, if that has an element there.
-fn place_of(
-    alloc: Global,
-    mapping: &SyntaxMapping,
-    owner: &Change,
-) -> Result<Option<Vec<usize>>, AllocError>
-    requires { is_keeping owner.now ≡ true }
-    ensures { IfOk result (λ o. IsPlaceOf mapping.now owner.now (path_in o)) }
-{
-    place_is_unique();
-    let Change::Replace(SyntaxElement::Node(target), Some(SyntaxElement::Node(payload))) = owner
-    else {
-        unreachable!();
-    };
-    let place = mapping.place(alloc, target, payload)?;
-    Ok(place.filter(|path| payload.as_green().get(path).is_some()))
-}
-
-// Enters the place of an owner's target, where it has not been asked for before.
+// Enters the place of an owner's target in its payload, if that has an element there, where it has not been asked for before.
 fn find_place(
     alloc: Global,
     mapping: &SyntaxMapping,
@@ -53,10 +33,17 @@ fn find_place(
     ensures here { OnOk result (IsFoundPlace mapping.now changes.now places.new.items owner) }
     ensures kept { OnOk result (PlacesStay places.old.items places.new.items) }
 {
-    if places[owner].is_none() {
-        let place = place_of(alloc, mapping, &changes[owner])?;
-        places[owner] = place;
+    place_is_unique();
+    if places[owner].is_some() {
+        return Ok(());
     }
+    let Change::Replace(SyntaxElement::Node(target), Some(SyntaxElement::Node(payload))) =
+        &changes[owner]
+    else {
+        unreachable!();
+    };
+    let place = mapping.place(alloc, target, payload)?;
+    places[owner] = place.filter(|path| payload.as_green().get(path).is_some());
     Ok(())
 }
 

@@ -1,11 +1,13 @@
 -- The next aim of an open node, by where it stands.
 --     first_aim, some-aim           the next aim; it is the first of those that are to come
 --     order-shared                  where the children before a slot are shared, and nothing aims before it
+--     put-next                      what the next aim's change gives is put
 --     take-gap, take-run            an insert, a replacement
 --     take-passed, take-nowhere     one inside a child that is replaced or a token; one that puts nothing
 --     next-child                    one inside a child that stays
 --     part-rest                     the rest of a list, as a part of it
-use Rattle.std.specs.Prelude.{◌≡◌, ℕ, suc, ◌+◌, ◌<◌, ◌≤◌, ◌⊎◌, max, Bool, true, false, cond, ◌||◌, nat_lt, List, [], ◌∷◌, ◌++◌, ◌-◌, map, take, drop, length, get_or, sum, refl}
+use Rattle.std.specs.Prelude.{◌≡◌, ℕ, suc, ◌+◌, ◌<◌, ◌≤◌, ◌⊎◌, max, Bool, true, false, cond, ◌||◌, nat_lt, List, [], ◌∷◌, ◌++◌, ◌-◌, map, take, drop, length, get_or, sum, Vec, refl}
+use Rattle.std.specs.Global.{Global}
 use Rattle.std.specs.Borrow.{Bor}
 use Rattle.std.proofs.Common.{ap, ap₂, sym, subst, ◌∙◌, arith}
 use Rattle.std.proofs.lemmas.Bool.{lt-ltb}
@@ -26,6 +28,7 @@ use Rattle.one_pass.specs.declared.marked_element.GivenTable.{GivenTable}
 use Rattle.one_pass.specs.declared.open_node.OpenNode.{OpenNode}
 use Rattle.one_pass.specs.declared.mark.Walk.{Walk}
 use Rattle.one_pass.specs.inner.Marked.{Marking, sought_below, wanted, InPathOrder, FromChild}
+use Rattle.one_pass.specs.inner.Pass.{given_in, Puts, FindsChange}
 use Rattle.one_pass.specs.inner.Sweep.{lowered, seen_at, covered, from_slot, inside_child, in_slot, From, Rising, key, IsGap, IsRun, IsBelow, PassesAll}
 use Rattle.one_pass.specs.inner.OpenNodes.{coming, sought_in, child_built, nothing, InOrder, IsSameNode, IsShared, IsFurther, PutsNext, IsPassed, IsToOpen, IsNext}
 use Rattle.one_pass.proofs.NodeAhead.{Follows, ahead-gap, ahead-run, ahead-pass, ahead-below}
@@ -88,6 +91,10 @@ passing f passed = record { kind = f.kind; elements = f.elements; depth = f.dept
 abbrev pub having : OpenNode → Bor (List Aimed) → OpenNode
 having f aims = record { kind = f.kind; elements = f.elements; depth = f.depth; aims = aims; sought = f.sought; out = f.out; slot = f.slot; passed = f.passed }
 
+-- with these aims to come, and this made so far
+abbrev pub putting : OpenNode → Bor (List Aimed) → Vec GreenElement Global → OpenNode
+putting f aims out = record { kind = f.kind; elements = f.elements; depth = f.depth; aims = aims; sought = f.sought; out = out; slot = f.slot; passed = f.passed }
+
 same-passing : (f : OpenNode) (p : ℕ) → IsSameNode f (passing f p)
 same-passing f p = record { kind = refl; elements = refl; depth = refl }
 
@@ -127,6 +134,21 @@ module _ (table : GivenTable) (start middle after : Walk) (f g : OpenNode) (orde
 
     lowered-same : (a : Aimed) → a ≡ first_aim f → lowered g.depth a ≡ seen_first f
     lowered-same a is = ap₂ lowered shared.same.depth is
+
+    -- what the next aim's change gives goes to the end
+    pub put-next : (xs : Bor (List Aimed)) (out : Vec GreenElement Global) → xs.now ≡ drop 1 f.aims.now → after.path.items ≡ middle.path.items → after.builds ≡ middle.builds → Puts g.out out (given_in table (first_aim f).change) → FindsChange middle g.out after table (first_aim f).change → PutsNext table middle after g (putting g xs out)
+    put-next xs out rest path count trees marks = record {
+      aim = first_aim f;
+      aims = sym same-aims ∙ some-aim f some ∙ ap (λ ys. first_aim f ∷ ys) (sym rest);
+      same = record { kind = refl; elements = refl; depth = refl };
+      sought = refl;
+      slot = refl;
+      passed = refl;
+      path = path;
+      count = count;
+      trees = trees;
+      marks = marks;
+    }
 
     module _ (h : OpenNode) (put : PutsNext table middle after g h) where
       aim-is : put.aim ≡ first_aim f

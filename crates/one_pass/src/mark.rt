@@ -3,7 +3,7 @@
 ghost use Rattle.std.specs.Prelude.{◌≡◌, ◌≤◌, ◌++◌, ◌∷◌, [], suc, map, take, drop, length, IfOk, OnOk};
 ghost use Rattle.green_tree.specs.GreenElement.{element_tree};
 ghost use Rattle.one_pass.specs.inner.Lists.{AreEmpty};
-ghost use Rattle.one_pass.specs.inner.Marked.{marks_of, marks_seen, mark_below, is_before_child, leads, kept_in, InPathOrder, BeforeChild, FromChild, Finds};
+ghost use Rattle.one_pass.specs.inner.Marked.{marks_of, marks_seen, mark_below, is_before_child, kept_in, InPathOrder, BeforeChild, FromChild, Finds};
 ghost use Rattle.one_pass.specs.inner.Marks.{ArePathsOf};
 
 use green_tree::GreenElement;
@@ -30,18 +30,6 @@ pub fn path_from(path: &[usize], depth: usize) -> &[usize]
     match path.get(depth..) {
         Some(path) => path,
         None => &[],
-    }
-}
-
-impl<'a> Sought<'a> {
-    // Whether it is sought at the node at a depth, or in a child of it before a slot.
-    fn is_before(&self, depth: usize, slot: usize) -> bool
-        ensures { result ≡ is_before_child slot (drop depth self.now.path.now) }
-    {
-        match path_from(self.path, depth) {
-            [first, ..] => *first < slot,
-            [] => true,
-        }
     }
 }
 
@@ -78,7 +66,15 @@ pub fn marks_before(sought: &[Sought], depth: usize, slot: usize) -> usize
     ensures before { BeforeChild slot (marks_seen depth (take result sought.now)) }
     ensures behind { FromChild slot (marks_seen depth (drop result sought.now)) }
 {
-    sought.partition_point(|mark| mark.is_before(depth, slot))
+    let is_before = |mark: &Sought<'_>|
+        ensures { result ≡ is_before_child slot (drop depth mark.now.path.now) }
+    {
+        match path_from(mark.path, depth) {
+            [first, ..] => *first < slot,
+            [] => true,
+        }
+    };
+    sought.partition_point(is_before)
 }
 
 /// A mark of an element whose path goes on from another one.
@@ -98,16 +94,6 @@ pub fn push_mark(
     Ok(())
 }
 
-// Whether a path leads from an element to a part of it.
-fn leads(element: &GreenElement, path: &[usize]) -> bool
-    ensures { result ≡ leads (element_tree element.now) path.now }
-{
-    match element {
-        GreenElement::Node(node) => node.get(path).is_some(),
-        GreenElement::Token(_) => path.is_empty(),
-    }
-}
-
 /// The marks sought in an element in which nothing is changed, which is made at a path: those whose paths lead somewhere. They
 /// are seen from the element, so many slots down their paths.
 pub fn push_kept(
@@ -123,7 +109,11 @@ pub fn push_kept(
 {
     for mark in sought {
         let below = path_from(mark.path, depth);
-        if leads(element, below) {
+        let leads = match element {
+            GreenElement::Node(node) => node.get(below).is_some(),
+            GreenElement::Token(_) => below.is_empty(),
+        };
+        if leads {
             push_mark(alloc, found, mark.number, path, below)?;
         }
     }

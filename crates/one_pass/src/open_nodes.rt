@@ -8,13 +8,13 @@ ghost use Rattle.one_pass.specs.inner.Marked.{mark_seen, marks_seen, InPathOrder
 ghost use Rattle.one_pass.specs.inner.Pass.{TouchesAtMost, CountsBuilt, CountsTouched};
 ghost use Rattle.one_pass.specs.inner.Pass.{green_rewritten, FindsRewritten};
 ghost use Rattle.one_pass.specs.inner.Sweep.{seen_at, From};
-ghost use Rattle.one_pass.specs.inner.OpenNodes.{InOrder, IsNodeOpened, IsFurther, IsShared, PutsNext, IsPassed, IsToOpen, IsLeft, IsEnded, IsNext};
+ghost use Rattle.one_pass.specs.inner.OpenNodes.{InOrder, IsNodeOpened, IsFurther, IsShared, IsLeft, IsEnded, IsNext};
 ghost use Rattle.one_pass.specs.inner.OpenNodes.{FindsShared, Enters, PutsMade, FindsWholeNode, to_build, whole};
 
 use crate::mark::{Sought, Walk, marks_before, path_from, push_kept, push_mark};
 use crate::marked_element::{GivenTable, push_change};
 use crate::open_node::OpenNode;
-use crate::site::{Site, in_order, one_deeper, run_inside, site_of};
+use crate::site::{Site, one_deeper, run_inside, site_of};
 use edit_change::Aimed;
 use green_tree::{GreenElement, GreenNode, SyntaxKind, share_all};
 use std::alloc::{AllocError, Global};
@@ -128,40 +128,6 @@ fn share_until(
     Ok(())
 }
 
-// The child in the slot, if it is a node that stays.
-fn child_to_open<'e>(top: &OpenNode<'e, '_, '_, '_>) -> Option<&'e GreenNode>
-    requires { top.now.slot < length top.now.elements.now }
-    ensures { MatchOption result (IsPassed top.now) (λ n. IsToOpen top.now n.now) }
-{
-    if top.slot < top.passed {
-        return None;
-    }
-    let elements = top.elements;
-    match &elements[top.slot] {
-        GreenElement::Node(node) => Some(node),
-        GreenElement::Token(_) => None,
-    }
-}
-
-// The change of the next aim is put.
-fn put_next(
-    alloc: Global,
-    walk: &mut Walk,
-    top: &mut OpenNode,
-    given: &GivenTable,
-) -> Result<(), AllocError>
-    requires { 0 < length top.old.aims.now }
-    ensures { OnOk result (PutsNext given.now walk.old walk.new top.old top.new) }
-{
-    let [aim, rest @ ..] = top.aims else {
-        unreachable!()
-    };
-    let change = aim.change;
-    top.aims = rest;
-    push_change(alloc, walk, &mut top.out, given, change)?;
-    Ok(())
-}
-
 // What is due to the next aim is put, with the children before it; or these alone, where the aim is inside a child that has
 // to be made anew.
 fn take_aim<'e>(
@@ -182,19 +148,25 @@ fn take_aim<'e>(
     match site_of(aim, top.depth, top.elements.len()) {
         Site::Gap(gap) => {
             share_until(alloc, walk, top, gap)?;
-            put_next(alloc, walk, top, given)?;
+            top.aims = rest;
+            push_change(alloc, walk, &mut top.out, given, aim.change)?;
             Ok(None)
         }
         Site::Slots(first, count) => {
             share_until(alloc, walk, top, first)?;
-            put_next(alloc, walk, top, given)?;
+            top.aims = rest;
+            push_change(alloc, walk, &mut top.out, given, aim.change)?;
             top.passed = top.passed.max(first.saturating_add(count));
             Ok(None)
         }
         Site::Below(slot) => {
             share_until(alloc, walk, top, slot)?;
-            if let Some(node) = child_to_open(top) {
-                return Ok(Some(node));
+            // A node that stays is opened; a token has no inside, and neither has what is replaced.
+            if slot >= top.passed {
+                let elements = top.elements;
+                if let GreenElement::Node(node) = &elements[slot] {
+                    return Ok(Some(node));
+                }
             }
             top.aims = rest;
             Ok(None)
@@ -330,7 +302,9 @@ pub fn rewrite_element(
         push_kept(alloc, &mut walk.found, &walk.path, element, 0, sought)?;
         return element.share(alloc);
     };
-    let sorted = in_order(alloc, aims)?;
+    // In document order; those at one site stay in theirs.
+    let mut sorted = Vec::from_slice(alloc, aims)?;
+    sorted.sort_by(|one: &Aimed<'_>, two: &Aimed<'_>| one.compare_sites(two))?;
     let top = open_node(alloc, walk, node, 0, &sorted, sought)?;
     rewrite_open(alloc, walk, top, given)
 }

@@ -1,8 +1,7 @@
-//! Aims in document order, and where one stands, as it is seen from a node whose children are made anew.
+//! Where an aim stands, as it is seen from a node whose children are made anew.
 
-ghost use Rattle.std.specs.Prelude.{◌≡◌, ◌≤◌, ◌<◌, ◌+◌, length, IfOk};
-ghost use Rattle.edit_change.specs.inner.Aimed.{aims_of};
-ghost use Rattle.one_pass.specs.inner.Sweep.{lowered, AreOrdered, IsReordered, IsSite, BelowUpTo, EndsBelow};
+ghost use Rattle.std.specs.Prelude.{◌≡◌, ◌≤◌, ◌<◌, ◌+◌, length};
+ghost use Rattle.one_pass.specs.inner.Sweep.{lowered, IsSite, BelowUpTo, EndsBelow};
 
 use crate::mark::path_from;
 use edit_change::{AimForm, Aimed};
@@ -73,14 +72,4 @@ pub fn run_inside(aims: &[Aimed], depth: usize, slot: usize, count: usize) -> us
         }
     }
     aims.len()
-}
-
-/// The aims in document order, those at one site in their order. Takes linear time where they are in it, or the other way round.
-pub fn in_order<'a>(alloc: Global, aims: &[Aimed<'a>]) -> Result<Vec<Aimed<'a>>, AllocError>
-    ensures order { IfOk result (λ v. AreOrdered v.items) }
-    ensures same { IfOk result (λ v. IsReordered (aims_of aims.now) (aims_of v.items)) }
-{
-    let mut sorted = Vec::from_slice(alloc, aims)?;
-    sorted.sort_by(|one: &Aimed<'_>, two: &Aimed<'_>| one.compare_sites(two))?;
-    Ok(sorted)
 }

@@ -7,7 +7,7 @@ ghost use Rattle.std.specs.List.{enumerate_from};
 ghost use Rattle.cst_core.specs.Element.{address};
 ghost use Rattle.cst_core.specs.SyntaxElement.{element_of};
 ghost use Rattle.one_pass.specs.inner.Marked.{marks_seen};
-ghost use Rattle.one_pass.specs.inner.Sought.{place_of, as_registered, begins_with, addresses, sought_at};
+ghost use Rattle.one_pass.specs.inner.Sought.{place_of, as_registered, addresses, sought_at};
 ghost use Rattle.one_pass.specs.inner.Sought.{AreInOrder, IsTableOf};
 
 use crate::mark::{Sought, path_from};
@@ -42,13 +42,6 @@ impl<'a> Registered<'a> {
             .cmp(&other.tree)
             .then(self.mark.path.cmp(other.mark.path))
     }
-
-    // Whether it is at another one or below it.
-    fn is_within(&self, other: &Registered<'_>) -> bool
-        ensures { result ≡ begins_with (place_of other.now) (place_of self.now) }
-    {
-        self.tree == other.tree && self.mark.path.starts_with(other.mark.path)
-    }
 }
 
 /// These elements by their numbers, tree by tree, in document order, and those of one address as they were registered.
@@ -81,7 +74,9 @@ pub fn sought_at<'a>(
     let top = Registered::of(element, 0);
     let start = registered.partition_point(|one| one.compare(&top).is_lt());
     let rest = &registered[start..];
-    let end = rest.partition_point(|one| one.is_within(&top));
+    let end = rest.partition_point(|one| {
+        one.tree == top.tree && one.mark.path.starts_with(top.mark.path)
+    });
     let here = &rest[..end];
     let depth = top.mark.path.len();
     let mut sought = Vec::with_capacity(alloc, here.len())?;

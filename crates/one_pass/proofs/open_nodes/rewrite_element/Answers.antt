@@ -20,7 +20,10 @@ use Rattle.edit_change.proofs.Untouched.{nothing_rewritten, unaimed}
 use Rattle.one_pass.proofs.MarksInOrder.{kept, kept-found}
 use Rattle.one_pass.proofs.OpenedNode.{opened-order, whole-opened, built-opened, marks-opened, from-top, ordered-top}
 use Rattle.one_pass.specs.inner.Sweep.{AreOrdered, IsReordered}
-use Rattle.one_pass.proofs.Reordered.{any-moved, rewritten-reordered, built-reordered}
+use Rattle.std.specs.Ordering.{is_lt}
+use Rattle.std.proofs.lemmas.List.Sorted.{answers_always}
+use Rattle.one_pass.proofs.Ascending.{less_by, keys-ordered}
+use Rattle.one_pass.proofs.Reordered.{site_at, are-ordered, are-reordered, any-moved, rewritten-reordered, built-reordered}
 use Rattle.one_pass.proofs.open_nodes.rewrite_element.Goals as goal
 
 any-has : (xs : List Aimed) → list_any (λ a. has_parent (numbered a)) xs ≡ list_any has_parent (aims_of xs)
@@ -87,7 +90,7 @@ returns-in_default-clause-marks c =
 -- ---- a node is opened, with the aims in order
 pub rewrite_open-requires : goal.rewrite_open-requires
 rewrite_open-requires c =
-    opened-order c.in-Node.node 0 c.deref-2.result.now (marks_seen 0 c.args.sought.now) c.args.walk.now c.open_node.new.walk c.in_ok-top.top c.in_ok-top.ensures.opened (ordered-top c.deref-2.result.now (subst AreOrdered (sym c.deref-2.ensures.value) c.in_ok-sorted.ensures.order))
+    opened-order c.in-Node.node 0 c.deref-2.result.now (marks_seen 0 c.args.sought.now) c.args.walk.now c.open_node.new.walk c.in_ok-top.top c.in_ok-top.ensures.opened (ordered-top c.deref-2.result.now (subst AreOrdered (sym c.deref-2.ensures.value) (are-ordered c.sort_by.new.self.items (c.in_ok-sort_by.ensures.sorted (less_by site_at) (keys-ordered site_at) (answers_always _ _ _ (λ f a r f' k. let told : is_lt r ≡ less_by site_at a.0.now a.1.0.now = search rules in told))))))
 
 pub returns-clause-path : goal.returns-clause-path
 returns-clause-path c = on_ok-map c.rewrite_open.result (λ h. h ∙ c.in_ok-top.ensures.path) c.rewrite_open.ensures.path
@@ -96,7 +99,9 @@ pub returns-clause-tree : goal.returns-clause-tree
 returns-clause-tree c =
     let table = c.args.given.now in
     let sorted = c.deref-2.result.now in
-    let same = subst (λ xs. IsReordered (aims_of c.args.aims.now) (aims_of xs)) (sym c.deref-2.ensures.value) c.in_ok-sorted.ensures.same in
+    let stable = c.in_ok-sort_by.ensures.stable (less_by site_at) (keys-ordered site_at) (answers_always _ _ _ (λ f a r f' k. let told : is_lt r ≡ less_by site_at a.0.now a.1.0.now = search rules in told)) in
+    let all = are-reordered _ c.sort_by.new.self.items c.in_ok-sort_by.ensures.permutation stable in
+    let same = subst (λ xs. IsReordered (aims_of c.args.aims.now) (aims_of xs)) (sym c.deref-2.ensures.value) (subst (λ xs. IsReordered (aims_of xs) (aims_of c.sort_by.new.self.items)) (search rules) all) in
     let whole = whole-opened c.in-Node.node 0 sorted (marks_seen 0 c.args.sought.now) c.args.walk.now c.open_node.new.walk c.in_ok-top.top c.in_ok-top.ensures.opened table in
     let own = whole ∙ ap (λ cs. rewritten kind_only (given_in table) cs [] (branch_tree c.in-Node.node)) (from-top sorted) ∙ rewritten-reordered (aims_of c.args.aims.now) (aims_of sorted) same kind_only (given_in table) [] (branch_tree c.in-Node.node) ∙ ap (λ e. green_rewritten table c.args.aims.now e) (sym c.in-Node.is) in
     if_ok-map _ (λ e. element_tree e ≡ green_rewritten table c.args.aims.now c.args.element.now) c.rewrite_open.result (λ e is. is ∙ own) c.rewrite_open.ensures.tree
@@ -105,7 +110,9 @@ pub returns-clause-count : goal.returns-clause-count
 returns-clause-count c =
     let cs = aims_of c.args.aims.now in
     let sorted = c.deref-2.result.now in
-    let same = subst (λ xs. IsReordered (aims_of c.args.aims.now) (aims_of xs)) (sym c.deref-2.ensures.value) c.in_ok-sorted.ensures.same in
+    let stable = c.in_ok-sort_by.ensures.stable (less_by site_at) (keys-ordered site_at) (answers_always _ _ _ (λ f a r f' k. let told : is_lt r ≡ less_by site_at a.0.now a.1.0.now = search rules in told)) in
+    let all = are-reordered _ c.sort_by.new.self.items c.in_ok-sort_by.ensures.permutation stable in
+    let same = subst (λ xs. IsReordered (aims_of c.args.aims.now) (aims_of xs)) (sym c.deref-2.ensures.value) (subst (λ xs. IsReordered (aims_of xs) (aims_of c.sort_by.new.self.items)) (search rules) all) in
     let some : list_any has_parent cs ≡ true = sym (any_from_yields_List (λ (a : Aimed). has_parent (numbered a)) _ _ _ c.any.ensures.ran (YieldsList-from_slice c.args.aims.now cc) (λ x b q k. search rules) ∙ any-has c.args.aims.now) ∙ c.if-not-any.false in
     let built = built-opened c.in-Node.node 0 sorted (marks_seen 0 c.args.sought.now) c.args.walk.now c.open_node.new.walk c.in_ok-top.top c.in_ok-top.ensures.opened (ap (list_any has_parent) (from-top sorted) ∙ any-moved has_parent cs (aims_of sorted) same.each_once ∙ some) in
     let own = built ∙ ap (λ ds. nodes_built ds (branch_tree c.in-Node.node)) (from-top sorted) ∙ built-reordered cs (aims_of sorted) same (branch_tree c.in-Node.node) ∙ ap (λ e. nodes_built cs (element_tree e)) (sym c.in-Node.is) in
@@ -124,5 +131,7 @@ returns-clause-marks c =
     let sought = marks_seen 0 c.args.sought.now in
     let before = marks_of c.args.walk.now.found.items in
     let sorted = c.deref-2.result.now in
-    let same = subst (λ xs. IsReordered (aims_of c.args.aims.now) (aims_of xs)) (sym c.deref-2.ensures.value) c.in_ok-sorted.ensures.same in
+    let stable = c.in_ok-sort_by.ensures.stable (less_by site_at) (keys-ordered site_at) (answers_always _ _ _ (λ f a r f' k. let told : is_lt r ≡ less_by site_at a.0.now a.1.0.now = search rules in told)) in
+    let all = are-reordered _ c.sort_by.new.self.items c.in_ok-sort_by.ensures.permutation stable in
+    let same = subst (λ xs. IsReordered (aims_of c.args.aims.now) (aims_of xs)) (sym c.deref-2.ensures.value) (subst (λ xs. IsReordered (aims_of xs) (aims_of c.sort_by.new.self.items)) (search rules) all) in
     on_ok-map c.rewrite_open.result (λ h trees are. h trees are ∙ marks-opened c.in-Node.node 0 sorted sought c.args.walk.now c.open_node.new.walk c.in_ok-top.top c.in_ok-top.ensures.opened trees ∙ ap₂ (λ p cs. before ++ map (mark_below p) (marked (rewritten (wanted sought) trees cs [] (branch_tree c.in-Node.node)))) c.in_ok-top.ensures.path (from-top sorted) ∙ ap (λ t. before ++ map (mark_below c.args.walk.now.path.items) (marked t)) (rewritten-reordered (aims_of c.args.aims.now) (aims_of sorted) same (wanted sought) trees [] (branch_tree c.in-Node.node)) ∙ ap (λ e. before ++ map (mark_below c.args.walk.now.path.items) (marked (rewritten (wanted sought) trees (aims_of c.args.aims.now) [] (element_tree e)))) (sym c.in-Node.is)) c.rewrite_open.ensures.marks
