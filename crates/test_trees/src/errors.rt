@@ -1,8 +1,7 @@
 //! What errors of trees as text and of text edits print, and the sentences that say what to do.
 
-use crate::no_answer::NoAnswer;
 use crate::say;
-use crate::step::Step;
+use crate::step::{NoAnswer, Step};
 use cst_core::{SyntaxKind, TreeError};
 use std::fmt::Display;
 use text_edit::{ApplyError, ComposeError, OrderError};
@@ -35,65 +34,29 @@ const APPLY: &[ApplyError] =
 const COMPOSE: &[ComposeError] =
     errors_of! { ComposeError: InsideCharacter { index: 1 }, TooLong { index: 2 }, Memory };
 
-/// An error with a sentence that says what to do.
-trait Helpful {
-    fn sentence(&self) -> &'static str;
+macro_rules! say_all {
+    ($errors:ident, $step:ident) => {
+        for error in $errors {
+            say_one(error, error.help(), $step);
+        }
+    };
 }
 
-impl Helpful for ExpressionError {
-    fn sentence(&self) -> &'static str {
-        self.help()
-    }
-}
-
-impl Helpful for WriteError {
-    fn sentence(&self) -> &'static str {
-        self.help()
-    }
-}
-
-impl Helpful for NameError {
-    fn sentence(&self) -> &'static str {
-        self.help()
-    }
-}
-
-impl Helpful for OrderError {
-    fn sentence(&self) -> &'static str {
-        self.help()
-    }
-}
-
-impl Helpful for ApplyError {
-    fn sentence(&self) -> &'static str {
-        self.help()
-    }
-}
-
-impl Helpful for ComposeError {
-    fn sentence(&self) -> &'static str {
-        self.help()
-    }
-}
-
-/// What errors print, and their sentences, one after another.
-fn say_errors<E: Display + Helpful>(errors: &[E], step: &mut Step) {
-    for error in errors {
-        step.between(" | ");
-        say!(step, "{error}: {}", error.sentence());
-    }
-}
-
-/// Of the errors of this type.
+/// What the errors of this type print, and their sentences, one after another.
 pub fn print(name: &str, step: &mut Step) {
     match name {
-        "Expression" => say_errors(EXPRESSION, step),
-        "Write" => say_errors(WRITE, step),
-        "Name" => say_errors(NAME, step),
-        "Order" => say_errors(ORDER, step),
-        "Apply" => say_errors(APPLY, step),
-        "Compose" => say_errors(COMPOSE, step),
+        "Expression" => say_all!(EXPRESSION, step),
+        "Write" => say_all!(WRITE, step),
+        "Name" => say_all!(NAME, step),
+        "Order" => say_all!(ORDER, step),
+        "Apply" => say_all!(APPLY, step),
+        "Compose" => say_all!(COMPOSE, step),
         "NoAnswer" => step.put(NoAnswer::from(ExpressionError::Memory).why()),
         _ => step.stop(NoAnswer::Arguments),
     }
+}
+
+fn say_one<E: Display>(error: &E, sentence: &str, step: &mut Step) {
+    step.between(" | ");
+    say!(step, "{error}: {sentence}");
 }

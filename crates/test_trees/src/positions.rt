@@ -1,21 +1,161 @@
-//! Positions, changes that are made of them, and elements that are made of values.
+//! Tree numbers, roots and copies, shared trees, levels of indentation, positions, changes that are made of them, elements
+//! that are made of values, and mappings with their builders.
 
-use crate::step::{Done, Step, given, granted, made};
+use crate::step::{Done, NoAnswer, Show, Step, gave, given, granted, made, tried};
 use crate::trees::Trees;
-use crate::{mappings, say};
+use crate::words::number_of;
+use crate::{errors, say, texts};
 use cst_core::ast::{BlockExpr, Fn, LetStmt, StmtList};
-use cst_core::{AstNode, SyntaxKind};
+use cst_core::{AstNode, GreenNode, SyntaxElement, SyntaxKind, SyntaxNode, TreeIds};
 use edit_change::{Change, Element, ElementList, Position};
+use edit_map::{MapError, SyntaxMapping, SyntaxMappingBuilder};
+use std::alloc::AllocError;
+use whitespace::{IndentError, IndentLevel, indent};
 
 /// Takes the step of this name, or passes on what is none of these.
 pub fn answer(trees: &mut Trees, step: &mut Step) -> Done {
     match step.name {
+        "tree" => tree(trees, step),
+        "numbers" => numbers(trees, step),
+        "new_root" => gave_root(new_root(trees, step), step),
+        "clone_subtree" => clone_subtree(trees, step),
+        "green_node" | "capped" => shared_node(trees, step),
+        "splice_children" => splice_children(trees, step),
+        "next" => Some(step.gave_or_none(&trees.ids.next())),
+        "peek" => Some(peek(&trees.ids, step)),
+        "errors" => Some(errors::print(step.word(), step)),
+        "from_element" | "from_node" | "from_token" => level_at(trees, step),
+        "is_zero" => {
+            let is_zero = read_level(step).is_zero();
+            Some(step.truth(is_zero))
+        }
+        "sum" => Some(sum(step)),
+        "print" => Some(print(read_level(step), step)),
+        "free_indent" => free_indent(trees, step),
         "before" | "after" | "first" | "last" => Some(is_there(trees, step)),
         "change" => change(trees, step),
-        "syntax_element" => element(trees, step),
+        "syntax_element" => of_value(&trees.element(step)?, step),
         "typed_element" => typed_element(trees, step),
-        _ => mappings::answer(trees, step),
+        "builder" => builder(trees, step),
+        "map_node" => map_node(trees, step),
+        "map_children" => map_children(trees, step),
+        "map" => map(trees, step),
+        "finish_builder" | "add_mapping" => map_by(trees, step),
+        "mapping" => Some(step.note(trees.mappings.push(SyntaxMapping::new(step.alloc)))),
+        "merge_mappings" => merge(trees, step),
+        "clone_mapping" => clone_mapping(trees, step),
+        "drop_mapping" => Some(drop(trees.mappings.pop())),
+        "place" => place(trees, step),
+        "follow" => follow(trees, step),
+        _ => texts::answer(trees, step),
     }
+}
+
+// The root of a new tree, which goes by the name of the next word from then on.
+fn tree(trees: &mut Trees, step: &mut Step) -> Done {
+    let name = step.word();
+    let root = new_root(trees, step)?;
+    let kept = trees.add(name, root);
+    step.read(kept)
+}
+
+fn new_root(trees: &mut Trees, step: &mut Step) -> Option<SyntaxNode> {
+    let green = trees.tree(step.rest());
+    let called = SyntaxNode::new_root(step.alloc, &mut trees.ids, step.read(green)?);
+    tried(called, step)
+}
+
+fn gave_root(root: Option<SyntaxNode>, step: &mut Step) -> Done {
+    Some(step.root(&root?))
+}
+
+// A new source of numbers, from this number on, or a spent one.
+fn numbers(trees: &mut Trees, step: &mut Step) -> Done {
+    let first = match step.word() {
+        "spent" => u64::MAX,
+        digits => step.read(number_of(digits))?,
+    };
+    Some(trees.ids = TreeIds::new(first))
+}
+
+fn peek(ids: &TreeIds, step: &mut Step) {
+    let next = ids.peek();
+    if ids.is_spent() != next.is_none() {
+        step.put("spent in one way and not in another");
+    }
+    next.show(step);
+}
+
+// The copy goes by the name `it` from then on.
+fn clone_subtree(trees: &mut Trees, step: &mut Step) -> Done {
+    let node = trees.node(step)?;
+    let copy = tried(node.clone_subtree(step.alloc, &mut trees.ids), step)?;
+    step.root(&copy);
+    let kept = trees.add("it", copy);
+    step.read(kept)
+}
+
+// A shared node of these elements, by the call that refuses a long one, or by the other one.
+fn shared_node(trees: &Trees, step: &mut Step) -> Done {
+    let (alloc, kind, greens) = (step.alloc, SyntaxKind::NAME, trees.greens(step)?);
+    match step.name {
+        "capped" => gave(granted(GreenNode::capped(alloc, kind, greens), step), step),
+        _ => gave(tried(GreenNode::new(alloc, kind, greens), step), step),
+    }
+}
+
+// The trees of these elements in the place of the children of a tree from the first slot up to the second one.
+fn splice_children(trees: &Trees, step: &mut Step) -> Done {
+    let node = trees.tree(step.word());
+    let (node, start, end) = (step.read(node), step.number(), step.number());
+    let (node, new) = node.zip(trees.greens(step))?;
+    if start > end || end > node.children().len() {
+        return step.end_by(NoAnswer::Arguments);
+    }
+    let called = node.splice_children(step.alloc, start, end, new);
+    gave(granted(called, step), step)
+}
+
+fn free_indent(trees: &mut Trees, step: &mut Step) -> Done {
+    let (node, level) = (trees.node(step)?, read_level(step));
+    let called = indent(step.alloc, &node, &mut trees.ids, level);
+    gave_root(tried(called, step), step)
+}
+
+pub fn read_level(step: &mut Step) -> IndentLevel {
+    IndentLevel(step.number())
+}
+
+pub fn level(called: Result<IndentLevel, IndentError>, step: &mut Step) -> Done {
+    let level = tried(called, step)?;
+    Some(step.gave(&u64::from(level.0)))
+}
+
+fn level_at(trees: &Trees, step: &mut Step) -> Done {
+    let (alloc, element) = (step.alloc, trees.element(step)?);
+    let called = match (step.name, &element) {
+        ("from_element", it) => IndentLevel::from_element(alloc, it),
+        ("from_node", SyntaxElement::Node(it)) => IndentLevel::from_node(alloc, it),
+        (_, SyntaxElement::Token(it)) => IndentLevel::from_token(alloc, it),
+        _ => return None,
+    };
+    level(called, step)
+}
+
+// Whether no indentation, and first one level more, then another one, is the third level.
+fn sum(step: &mut Step) {
+    let (first, second, third): (u8, u8, u8) = (step.number(), step.number(), step.number());
+    if first.checked_add(second).is_none() {
+        return step.put("none");
+    }
+    let mut level = IndentLevel::zero() + first;
+    level += second;
+    step.truth(level == IndentLevel::from(third));
+}
+
+// A level as it prints: as it is, and in a width of 14, 13 and 14, at the right end, the left end and in the middle.
+fn print(level: IndentLevel, step: &mut Step) {
+    say! { step, "[{level}] [{level:*>14}] [{level:*<13}] [{level:*^14}]" }
 }
 
 fn is_there(trees: &Trees, step: &mut Step) {
@@ -28,82 +168,53 @@ pub fn position(trees: &Trees, step: &mut Step) -> Option<Position> {
     position_at(trees, step.word(), step)
 }
 
-// At one side of the node or of the element of the next word.
+macro_rules! position_by {
+    ($call:ident($given:expr), $step:ident) => {{
+        let called = Position::$call($step.alloc, $given);
+        given(concat!("Position::", stringify!($call)), called, $step)
+    }};
+}
+
 fn position_at(trees: &Trees, side: &str, step: &mut Step) -> Option<Position> {
     match side {
-        "before" => before(trees, step),
-        "after" => after(trees, step),
-        "first" => first(trees, step),
-        "last" => last(trees, step),
+        "before" => position_by!(before(trees.element(step)?), step)?,
+        "after" => position_by!(after(&trees.element(step)?), step)?,
+        "first" => position_by!(first_child_of(&trees.node(step)?), step),
+        "last" => position_by!(last_child_of(&trees.node(step)?), step),
         _ => None,
     }
 }
 
-fn before(trees: &Trees, step: &mut Step) -> Option<Position> {
-    let called = Position::before(step.alloc, trees.element(step)?);
-    given("Position::before", called, step)?
-}
-
-fn after(trees: &Trees, step: &mut Step) -> Option<Position> {
-    let called = Position::after(step.alloc, &trees.element(step)?);
-    given("Position::after", called, step)?
-}
-
-fn first(trees: &Trees, step: &mut Step) -> Option<Position> {
-    let called = Position::first_child_of(step.alloc, &trees.node(step)?);
-    given("Position::first_child_of", called, step)
-}
-
-fn last(trees: &Trees, step: &mut Step) -> Option<Position> {
-    let called = Position::last_child_of(step.alloc, &trees.node(step)?);
-    given("Position::last_child_of", called, step)
-}
-
-// One more change of the plan that is built.
 fn change(trees: &mut Trees, step: &mut Step) -> Done {
     let change = next_change(trees, step)?;
     Some(step.note(trees.changes.push(change)))
 }
 
 fn next_change(trees: &Trees, step: &mut Step) -> Option<Change> {
-    match step.word() {
-        "insert" => insert(trees, step),
-        "insert_all" => insert_all(trees, step),
-        "delete" => delete(trees, step),
-        "replace" => replace(trees, step),
-        "replace_with_many" => replace_with_many(trees, step),
-        "replace_all" => replace_all(trees, step),
-        _ => None,
-    }
-}
-
-fn insert(trees: &Trees, step: &mut Step) -> Option<Change> {
-    let (at, new) = position(trees, step).zip(trees.element(step))?;
-    Some(Change::Insert(at, new))
-}
-
-fn insert_all(trees: &Trees, step: &mut Step) -> Option<Change> {
-    let (at, new) = position(trees, step).zip(trees.others(step))?;
-    Some(Change::InsertAll(at, ElementList::from(new)))
-}
-
-fn delete(trees: &Trees, step: &mut Step) -> Option<Change> {
-    Some(Change::Replace(trees.element(step)?, None))
-}
-
-fn replace(trees: &Trees, step: &mut Step) -> Option<Change> {
-    let (old, new) = trees.two_elements(step)?;
-    Some(Change::Replace(old, Some(new)))
-}
-
-fn replace_with_many(trees: &Trees, step: &mut Step) -> Option<Change> {
-    let (old, new) = trees.element(step).zip(trees.others(step))?;
-    Some(Change::ReplaceWithMany(old, ElementList::from(new)))
-}
-
-fn replace_all(trees: &Trees, step: &mut Step) -> Option<Change> {
-    let ((first, end), new) = trees.two_elements(step).zip(trees.others(step))?;
-    Some(Change::ReplaceAll(first, end, ElementList::from(new)))
+    Some(match step.word() {
+        "insert" => {
+            let (at, new) = position(trees, step).zip(trees.element(step))?;
+            Change::Insert(at, new)
+        }
+        "insert_all" => {
+            let (at, new) = position(trees, step).zip(trees.others(step))?;
+            Change::InsertAll(at, ElementList::from(new))
+        }
+        "delete" => Change::Replace(trees.element(step)?, None),
+        "replace" => {
+            let (old, new) = trees.two_elements(step)?;
+            Change::Replace(old, Some(new))
+        }
+        "replace_with_many" => {
+            let (old, new) = trees.element(step).zip(trees.others(step))?;
+            Change::ReplaceWithMany(old, ElementList::from(new))
+        }
+        "replace_all" => {
+            let ((first, end), new) = trees.two_elements(step).zip(trees.others(step))?;
+            Change::ReplaceAll(first, end, ElementList::from(new))
+        }
+        _ => return None,
+    })
 }
 
 /// The paths of what changes delete, one element each, in the order of the changes.
@@ -139,18 +250,12 @@ pub fn change_text(change: &Change, step: &mut Step) -> Done {
     Some(step.text = made(step.text.replace(step.alloc, '\x1b', "\\e"), step)?)
 }
 
-// The text of an element that is made of a value.
 fn of_value<E: Element>(value: E, step: &mut Step) -> Done {
     let element = granted(value.syntax_element(step.alloc), step)?;
     step.put("ok ");
     Some(step.made_text(element.text(step.alloc)))
 }
 
-fn element(trees: &Trees, step: &mut Step) -> Done {
-    of_value(&trees.element(step)?, step)
-}
-
-// The element by a reference to the typed node of its kind.
 fn typed_element(trees: &Trees, step: &mut Step) -> Done {
     let node = trees.node(step)?;
     match node.kind() {
@@ -159,4 +264,100 @@ fn typed_element(trees: &Trees, step: &mut Step) -> Done {
         SyntaxKind::LET_STMT => of_value(&LetStmt::cast(node)?, step),
         _ => of_value(&Fn::cast(node)?, step),
     }
+}
+
+fn builder(trees: &mut Trees, step: &mut Step) -> Done {
+    let builder = SyntaxMappingBuilder::new(step.alloc, trees.node(step)?);
+    Some(step.note(trees.builders.push(builder)))
+}
+
+fn map_node(trees: &mut Trees, step: &mut Step) -> Done {
+    let pair = trees.two_nodes(step);
+    let (builder, (input, output)) = trees.builders.last_mut().zip(pair)?;
+    tried(builder.map_node(step.alloc, input, output), step)
+}
+
+fn map_children(trees: &mut Trees, step: &mut Step) -> Done {
+    let (inputs, outputs) = step.rest_around(" to ");
+    let (inputs, outputs) = (trees.nodes(inputs), trees.nodes(outputs));
+    let both = step.read(inputs).zip(step.read(outputs));
+    let (builder, (inputs, outputs)) = trees.builders.last_mut().zip(both)?;
+    tried(builder.map_children(step.alloc, &inputs, &outputs), step)
+}
+
+// The builder's pairs go into the last mapping, by its call or by the mapping's.
+fn map_by(trees: &mut Trees, step: &mut Step) -> Done {
+    let mapping = trees.mappings.last_mut()?;
+    let builder = trees.builders.pop()?;
+    let called = match step.name {
+        "add_mapping" => mapping.add_mapping(step.alloc, builder),
+        _ => builder.finish(step.alloc, mapping),
+    };
+    granted(called, step)
+}
+
+fn merge(trees: &mut Trees, step: &mut Step) -> Done {
+    let [.., _, _] = trees.mappings.as_slice() else {
+        return None;
+    };
+    let other = trees.mappings.pop()?;
+    let mapping = trees.mappings.last_mut()?;
+    granted(mapping.merge(step.alloc, other), step)
+}
+
+// A builder of the copy's parent, with one pair. Where memory runs out there is no such builder, so that the step can
+// be taken again.
+fn map(trees: &mut Trees, step: &mut Step) -> Done {
+    let (input, output) = trees.two_nodes(step)?;
+    let parent = made(output.parent(step.alloc), step)??;
+    let mut builder = SyntaxMappingBuilder::new(step.alloc, parent);
+    let called = builder.map_node(step.alloc, input, output);
+    if !matches!(&called, Err(MapError::Memory)) {
+        step.note(trees.builders.push(builder));
+    }
+    tried(called, step)
+}
+
+// A clone stands before the last mapping.
+fn clone_mapping(trees: &mut Trees, step: &mut Step) -> Done {
+    let clone = granted(trees.mappings.last()?.try_clone(step.alloc), step)?;
+    step.note(trees.mappings.push(clone));
+    let end = trees.mappings.len();
+    if end >= 2 {
+        trees.mappings.swap(end - 2, end - 1);
+    }
+    Some(())
+}
+
+fn place(trees: &Trees, step: &mut Step) -> Done {
+    let mapping = trees.mappings.last()?;
+    let (target, within) = trees.two_nodes(step)?;
+    tell_place(mapping.place(step.alloc, &target, &within), step)
+}
+
+fn tell_place(called: Result<Option<Vec<usize>>, AllocError>, step: &mut Step) -> Done {
+    let place = granted(called, step)?;
+    Some(match &place {
+        Some(path) => {
+            step.put("ok ");
+            step.path(path);
+        }
+        None => step.put("none"),
+    })
+}
+
+fn follow(trees: &Trees, step: &mut Step) -> Done {
+    let mapping = trees.mappings.last()?;
+    let start = trees.element(step)?;
+    tell_end(mapping.follow(step.alloc, &start), step)
+}
+
+// The form of the element, its text, the number of its tree and its path.
+fn tell_end(called: Result<SyntaxElement, AllocError>, step: &mut Step) -> Done {
+    let end = granted(called, step)?;
+    let is_node = end.as_node().is_some();
+    step.put(if is_node { "ok node " } else { "ok token " });
+    step.made_text(end.text(step.alloc));
+    say!(step, " of {} at ", end.tree());
+    Some(step.path(end.slots()))
 }

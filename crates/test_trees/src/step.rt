@@ -1,32 +1,97 @@
-//! A step of a row: the words that are left of it, and what it answers, as far as that is written.
+//! A step of a row: the words that are left of it, and what it answers, as far as that is written, or why there is no
+//! answer; and the ways in which answers show values.
 
-use crate::no_answer::NoAnswer;
-use crate::shown::Show;
 use crate::words::{first_word, number_of, push_path, push_quoted, slots_of, unquote};
-use cst_core::{SyntaxElement, SyntaxKind, SyntaxNode};
-use std::alloc::{AllocError, Global};
+use cst_core::{
+    GreenElement, GreenElementRef, GreenNode, GreenToken, SyntaxElement, SyntaxKind, SyntaxNode,
+    SyntaxToken, TokenAtOffset, TreeError,
+};
+use std::alloc::{AllocError, AllocFailed, Global};
 use std::fmt::Display;
 use std::str::FromStr;
+use tree_text::ExpressionError;
 
 /// A step is taken, and its answer is written; or it ends early, because what it works on is not there, or as it notes.
 pub type Done = Option<()>;
 
-/// The refused call left something else than before.
 pub const CHANGED: NoAnswer = NoAnswer::Row("the refused call changed what it works on");
 
 /// In the place of a call's name, that of the step.
 pub const STEP: &str = "the call";
 
-// Texts of nodes up to this length are shown.
+// Texts of nodes up to this length are shown, and those of shared trees.
 const SHOWN: u64 = 60;
+
+const SHOWN_OF_TREES: u64 = 200;
 
 /// Writes more of an answer.
 #[macro_export]
 macro_rules! say {
     ($step:ident, $($written:tt)*) => {{
         let written = write!($step.text, $($written)*);
-        $step.wrote(written);
+        $step.note(written);
     }};
+}
+
+/// Why a row of a table has no answer, or which refusal is its answer.
+#[derive(Clone, Copy)]
+pub enum NoAnswer {
+    /// The row asks for what is not there: this.
+    Row(&'static str),
+    /// There are too few words, too many, or one that means nothing there.
+    Arguments,
+    /// It was refused to what asks, and to no call that is asked about.
+    Memory,
+    /// The call that is asked about is refused, and its refusal is written. If memory is there, that is the answer.
+    Refusal,
+    /// The call of this name is asked about, and was refused for want of memory.
+    Refused(&'static str),
+}
+
+impl NoAnswer {
+    pub fn why(self) -> &'static str {
+        match self {
+            NoAnswer::Row(why) | NoAnswer::Refused(why) => why,
+            NoAnswer::Arguments =>
+                "there are too few words, too many, or one that means nothing there",
+            NoAnswer::Memory => "Memory",
+            NoAnswer::Refusal => "a call is refused",
+        }
+    }
+}
+
+impl From<TreeError> for NoAnswer {
+    fn from(error: TreeError) -> NoAnswer {
+        match error {
+            TreeError::TooLong => NoAnswer::Row("TooLong"),
+            TreeError::NoTreeNumber => NoAnswer::Row("NoTreeNumber"),
+            TreeError::Memory => NoAnswer::Memory,
+        }
+    }
+}
+
+impl From<ExpressionError> for NoAnswer {
+    fn from(error: ExpressionError) -> NoAnswer {
+        match error {
+            ExpressionError::Malformed { .. } => NoAnswer::Row("Malformed"),
+            ExpressionError::UnknownKind { .. } => NoAnswer::Row("UnknownKind"),
+            ExpressionError::TooDeep { .. } => NoAnswer::Row("TooDeep"),
+            ExpressionError::Tree(error) => NoAnswer::from(error),
+            ExpressionError::Memory => NoAnswer::Memory,
+        }
+    }
+}
+
+impl From<AllocError> for NoAnswer {
+    fn from(_: AllocError) -> NoAnswer {
+        NoAnswer::Memory
+    }
+}
+
+impl<T: Drop> From<AllocFailed<T>> for NoAnswer {
+    fn from(_: AllocFailed<T>) -> NoAnswer {
+        NoAnswer::Memory
+    }
 }
 
 /// A step. What reads a word or a number gives an empty one where it is not there, and what writes gives nothing: the
@@ -47,7 +112,6 @@ pub struct Step<'a> {
     pub refused: Option<&'static str>,
 }
 
-/// The name of a kind, if it has one.
 pub fn kind_name(kind: SyntaxKind) -> &'static str {
     kind.name().unwrap_or("no name")
 }
@@ -63,22 +127,23 @@ pub fn tried<T, E: Display + Drop>(called: Result<T, E>, step: &mut Step) -> Opt
     }
 }
 
-/// What was made, unless memory ran out.
-pub fn made<T, E: Drop>(made: Result<T, E>, step: &mut Step) -> Option<T> {
-    let Ok(value) = made else {
-        step.stop(NoAnswer::Memory);
+// What a call gave, or else it ends for this reason.
+fn or_stop<T, E: Drop>(called: Result<T, E>, why: NoAnswer, step: &mut Step) -> Option<T> {
+    let Ok(value) = called else {
+        step.stop(why);
         return None;
     };
     Some(value)
 }
 
+/// What was made, unless memory ran out.
+pub fn made<T, E: Drop>(made: Result<T, E>, step: &mut Step) -> Option<T> {
+    or_stop(made, NoAnswer::Memory, step)
+}
+
 /// What a call gave that may be refused because memory ran out, by its name in the sources.
 pub fn given<T, E: Drop>(call: &'static str, called: Result<T, E>, step: &mut Step) -> Option<T> {
-    let Ok(value) = called else {
-        step.stop(NoAnswer::Refused(call));
-        return None;
-    };
-    Some(value)
+    or_stop(called, NoAnswer::Refused(call), step)
 }
 
 /// The same of the call that the step is.
@@ -86,7 +151,12 @@ pub fn granted<T, E: Drop>(called: Result<T, E>, step: &mut Step) -> Option<T> {
     given(STEP, called, step)
 }
 
-/// Shows what a call gave that may be refused so, after what others gave.
+/// Answers what a call gave, unless it was refused.
+pub fn gave<T: Show + Drop>(given: Option<T>, step: &mut Step) -> Done {
+    Some(step.gave(&given?))
+}
+
+/// Shows what such a call gave, after what others gave.
 pub fn told<T: Show + Drop, E: Drop>(call: &'static str, called: Result<T, E>, step: &mut Step) {
     step.between(" | ");
     if let Some(given) = given(call, called, step) {
@@ -94,17 +164,9 @@ pub fn told<T: Show + Drop, E: Drop>(call: &'static str, called: Result<T, E>, s
     }
 }
 
-/// The same of a path.
-pub fn told_path<E: Drop>(call: &'static str, called: Result<Vec<usize>, E>, step: &mut Step) {
-    if let Some(given) = given(call, called, step) {
-        step.path(&given);
-    }
-}
-
 impl<'a> Step<'a> {
-    /// One of these words, about elements of the tree with this number.
-    pub fn of(alloc: Global, words: &'a str, tree: u64) -> Step<'a> {
-        let (name, words) = first_word(words);
+    /// One of this name, in these words, about elements of the tree with this number.
+    pub fn of(alloc: Global, name: &'a str, words: &'a str, tree: u64) -> Step<'a> {
         Step {
             alloc,
             name,
@@ -118,18 +180,9 @@ impl<'a> Step<'a> {
 
     /// Another one about elements of the same tree, in the same words.
     pub fn beside(&self) -> Step<'a> {
-        Step {
-            alloc: self.alloc,
-            name: self.name,
-            words: self.words,
-            text: String::new(self.alloc),
-            tree: self.tree,
-            end: None,
-            refused: None,
-        }
+        Step::of(self.alloc, self.name, self.words, self.tree)
     }
 
-    /// Whether a word is left.
     pub fn has_words(&self) -> bool {
         !self.words.is_empty()
     }
@@ -144,39 +197,28 @@ impl<'a> Step<'a> {
         word
     }
 
-    /// The next word, or this one where none is left.
     pub fn word_or(&mut self, other: &'static str) -> &'a str {
         if self.has_words() { self.word() } else { other }
     }
 
-    /// The next word as a number.
     pub fn number<T: FromStr + Default>(&mut self) -> T
     where
         T::Err: Drop,
     {
         let read = number_of(self.word());
-        if read.is_err() {
-            self.stop(NoAnswer::Arguments);
-        }
-        read.unwrap_or_default()
+        self.read(read).unwrap_or_default()
     }
 
-    /// The kind that the next word names.
     pub fn kind(&mut self) -> SyntaxKind {
-        let kind = SyntaxKind::from_name(self.word());
-        if kind.is_none() {
-            self.stop(NoAnswer::Arguments);
-        }
-        kind.unwrap_or(SyntaxKind::NAME)
+        let kind = SyntaxKind::from_name(self.word()).ok_or(NoAnswer::Arguments);
+        self.read(kind).unwrap_or(SyntaxKind::NAME)
     }
 
-    /// The slots of the path that the next word is.
     pub fn slots(&mut self) -> Vec<usize> {
         let read = slots_of(self.alloc, self.word());
         self.read(read).unwrap_or(Vec::new(self.alloc))
     }
 
-    /// All that is left, as it stands.
     pub fn rest(&mut self) -> &'a str {
         let rest = self.words;
         self.words = "";
@@ -205,13 +247,11 @@ impl<'a> Step<'a> {
         }
     }
 
-    /// Ends for this reason.
     pub fn end_by(&mut self, why: NoAnswer) -> Done {
         self.stop(why);
         None
     }
 
-    /// What has to hold to go on.
     pub fn demand(&mut self, holds: bool, why: NoAnswer) -> Done {
         if holds { Some(()) } else { self.end_by(why) }
     }
@@ -227,16 +267,9 @@ impl<'a> Step<'a> {
         }
     }
 
-    /// Something was written, unless memory ran out.
-    pub fn wrote(&mut self, written: Result<(), AllocError>) {
-        if written.is_err() {
-            self.stop(NoAnswer::Memory);
-        }
-    }
-
-    /// The same of what is kept.
-    pub fn note<E: Drop>(&mut self, kept: Result<(), E>) {
-        if kept.is_err() {
+    /// Something was written or kept, unless memory ran out.
+    pub fn note<E: Drop>(&mut self, done: Result<(), E>) {
+        if done.is_err() {
             self.stop(NoAnswer::Memory);
         }
     }
@@ -250,7 +283,7 @@ impl<'a> Step<'a> {
 
     pub fn put(&mut self, text: &str) {
         let written = self.text.push_str(text);
-        self.wrote(written);
+        self.note(written);
     }
 
     /// A text before something else, unless that comes first.
@@ -260,13 +293,11 @@ impl<'a> Step<'a> {
         }
     }
 
-    /// A call gave this.
     pub fn gave<T: Show>(&mut self, given: &T) {
         self.put("ok ");
         given.show(self);
     }
 
-    /// A call gave this, or none.
     pub fn gave_or_none<T: Show>(&mut self, given: &Option<T>) {
         match given {
             Some(given) => self.gave(given),
@@ -274,7 +305,6 @@ impl<'a> Step<'a> {
         }
     }
 
-    /// Whether something holds.
     pub fn truth(&mut self, holds: bool) {
         self.put(if holds { "true" } else { "false" });
     }
@@ -290,7 +320,6 @@ impl<'a> Step<'a> {
         }
     }
 
-    /// What a value or an error prints.
     pub fn print<T: Display>(&mut self, value: &T) {
         say!(self, "{value}");
     }
@@ -298,23 +327,20 @@ impl<'a> Step<'a> {
     /// A path, as `1/0`; that of a root is `.`.
     pub fn path(&mut self, slots: &[usize]) {
         let written = push_path(&mut self.text, slots);
-        self.wrote(written);
+        self.note(written);
     }
 
     pub fn quote(&mut self, text: &str) {
         let written = push_quoted(&mut self.text, text);
-        self.wrote(written);
+        self.note(written);
     }
 
-    /// A text that was made, unless memory ran out.
     pub fn made_text(&mut self, made: Result<String, AllocError>) {
-        match made {
-            Ok(text) => self.quote(&text),
-            Err(_) => self.stop(NoAnswer::Memory),
+        if let Some(text) = or_stop(made, NoAnswer::Memory, self) {
+            self.quote(&text);
         }
     }
 
-    /// The paths of elements with a space between them, or that there is none.
     pub fn paths(&mut self, elements: &[SyntaxElement]) {
         for element in elements {
             self.next_path(element);
@@ -328,7 +354,6 @@ impl<'a> Step<'a> {
         self.path(element.slots());
     }
 
-    /// A list is whole, which says so where it is empty.
     pub fn none_if_empty(&mut self) {
         if self.text.is_empty() {
             self.put("none");
@@ -356,10 +381,125 @@ impl<'a> Step<'a> {
         say!(self, " of {}", node.tree());
     }
 
-    /// The same, and its path.
     pub fn root_at(&mut self, node: &SyntaxNode) {
         self.root(node);
         self.put(" at ");
         self.path(node.slots());
+    }
+}
+
+/// What is shown in one way, wherever it stands.
+pub trait Show {
+    fn show(&self, step: &mut Step);
+}
+
+impl Show for u64 {
+    fn show(&self, step: &mut Step) {
+        step.print(self);
+    }
+}
+
+impl Show for usize {
+    fn show(&self, step: &mut Step) {
+        step.print(self);
+    }
+}
+
+impl Show for SyntaxKind {
+    fn show(&self, step: &mut Step) {
+        step.print(&self.0);
+    }
+}
+
+impl<T: Show> Show for Option<T> {
+    fn show(&self, step: &mut Step) {
+        match self {
+            Some(given) => given.show(step),
+            None => step.put("none"),
+        }
+    }
+}
+
+impl<T: Show> Show for Vec<T> {
+    fn show(&self, step: &mut Step) {
+        let mut comma = "";
+        for item in self {
+            step.put(comma);
+            item.show(step);
+            comma = ", ";
+        }
+        step.put(if comma.is_empty() { "none" } else { "" });
+    }
+}
+
+impl Show for String {
+    fn show(&self, step: &mut Step) {
+        step.quote(self);
+    }
+}
+
+impl Show for SyntaxElement {
+    fn show(&self, step: &mut Step) {
+        step.place(self.tree(), self.slots(), self.kind());
+    }
+}
+
+impl Show for SyntaxNode {
+    fn show(&self, step: &mut Step) {
+        step.place(self.tree(), self.slots(), self.kind());
+    }
+}
+
+impl Show for SyntaxToken {
+    fn show(&self, step: &mut Step) {
+        step.place(self.tree(), self.slots(), self.kind());
+    }
+}
+
+impl Show for TokenAtOffset {
+    fn show(&self, step: &mut Step) {
+        match self {
+            TokenAtOffset::None => step.put("none"),
+            TokenAtOffset::Single(token) => token.show(step),
+            TokenAtOffset::Between(left, right) => {
+                left.show(step);
+                step.put(", ");
+                right.show(step);
+            }
+        }
+    }
+}
+
+impl Show for GreenNode {
+    fn show(&self, step: &mut Step) {
+        let (name, count) = (kind_name(self.kind()), self.children().len());
+        say!(step, "{name} of {count}, {} bytes", self.length());
+        if self.length() <= SHOWN_OF_TREES {
+            step.put(" ");
+            let text = self.to_string(step.alloc);
+            step.made_text(text);
+        }
+    }
+}
+
+impl Show for GreenToken {
+    fn show(&self, step: &mut Step) {
+        say!(step, "{}, {} bytes ", kind_name(self.kind()), self.length());
+        step.quote(self.text());
+    }
+}
+
+impl Show for GreenElement {
+    fn show(&self, step: &mut Step) {
+        self.as_ref().show(step);
+    }
+}
+
+impl<'a> Show for GreenElementRef<'a> {
+    fn show(&self, step: &mut Step) {
+        match self {
+            GreenElementRef::Node(node) => node.show(step),
+            GreenElementRef::Token(token) => token.show(step),
+        }
     }
 }

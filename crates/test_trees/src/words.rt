@@ -1,6 +1,6 @@
 //! The words, paths and texts that rows of tests are written in, and how answers write them.
 
-use crate::no_answer::NoAnswer;
+use crate::step::NoAnswer;
 use std::alloc::{AllocError, Global};
 use std::str::FromStr;
 use tree_text::push_escaped;
@@ -10,7 +10,6 @@ pub fn first_word(text: &str) -> (&str, &str) {
     text.split_once(' ').unwrap_or((text, ""))
 }
 
-/// A number in decimal digits.
 pub fn number_of<T: FromStr>(digits: &str) -> Result<T, NoAnswer>
 where
     T::Err: Drop,
@@ -26,17 +25,10 @@ pub fn slots_of(alloc: Global, path: &str) -> Result<Vec<usize>, NoAnswer> {
             continue;
         }
         let (digits, times) = part.split_once('x').unwrap_or((part, "1"));
-        let slot = number_of(digits)?;
-        for _ in 0..number_of::<usize>(times)? {
-            slots.push(slot)?;
-        }
+        let end = slots.len().saturating_add(number_of(times)?);
+        slots.resize(end, number_of(digits)?)?;
     }
     Ok(slots)
-}
-
-/// The name of a tree and the path in it, as of `L/1/0`; that of `L` is `.`.
-pub fn name_and_path(reference: &str) -> (&str, &str) {
-    reference.split_once('/').unwrap_or((reference, "."))
 }
 
 // So many slots that are the same are written as their number.
@@ -57,7 +49,6 @@ pub fn push_path(out: &mut String, path: &[usize]) -> Result<(), AllocError> {
     Ok(())
 }
 
-// Slots that are the same.
 fn push_run(out: &mut String, run: &[usize]) -> Result<(), AllocError> {
     let Some((slot, others)) = run.split_first() else {
         return Ok(());
@@ -81,17 +72,16 @@ pub fn push_quoted(out: &mut String, text: &str) -> Result<(), AllocError> {
 
 /// What a text between quotes stands for: `\n`, `\r`, `\t`, `\"` and `\\` are escapes.
 pub fn unquote(alloc: Global, quoted: &str) -> Result<String, NoAnswer> {
-    let inner = quoted.strip_prefix('"').ok_or(NoAnswer::Arguments)?;
+    let inner = quoted.strip_prefix('"').unwrap_or("");
     let inner = inner.strip_suffix('"').ok_or(NoAnswer::Arguments)?;
     let mut text = String::new(alloc);
     let mut is_escaped = false;
     for c in inner.chars() {
-        match c {
-            '\\' if !is_escaped => (),
-            _ if is_escaped => text.push(unescape(c)?)?,
-            _ => text.push(c)?,
+        let was_escaped = is_escaped;
+        is_escaped = c == '\\' && !was_escaped;
+        if !is_escaped {
+            text.push(if was_escaped { unescape(c)? } else { c })?;
         }
-        is_escaped = c == '\\' && !is_escaped;
     }
     Ok(text)
 }
