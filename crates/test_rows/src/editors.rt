@@ -1,25 +1,19 @@
-//! Editors: new ones, the calls that record, what they have recorded, merged ones, and what finishing gives.
+//! Editors: new ones, the calls that record, what is told of them and of edits, merged ones, and what finishing gives;
+//! and edits one after the other: the editor that follows an edit, and chains.
 
-use crate::asked::{annotation, annotation_of, asked, last_two, or_back};
 use crate::making::factory;
 use crate::plans;
-use crate::session::Session;
+use crate::session::{Session, annotation, annotation_of, asked, keep_edit, keep_root};
 use cst_core::ast::{BlockExpr, Fn, LetStmt};
-use cst_core::{AstNode, SyntaxElement, SyntaxNode};
+use cst_core::{AstNode, SyntaxElement};
+use edit_chain::EditChain;
 use list_removal::remove_separated;
-use syntax_editor::{AttrsOwnerEdit, Change, Error, SyntaxEdit, SyntaxEditor};
-use test_trees::{Done, NoAnswer, Step, change_text, deleted_paths, inserted, made, position, say};
-
-// What is told of an editor.
-const TOLD: &str = "check changes deleted deletions inserted fits text plain_text";
-
-// What is told of an edit.
-const TOLD_OF_EDIT: &str = "old_text new_text changed annotated find_element";
-
-// The calls that record.
-const RECORDED: &str =
-    "insert insert_with_whitespace insert_all insert_all_with_whitespace delete delete_all replace \
-    replace_with_many replace_all add_annotation add_annotation_all remove_attrs_and_docs remove_separated";
+use std::alloc::AllocError;
+use syntax_editor::{AttrsOwnerEdit, ElementCursor, NextEdit, SyntaxEditor};
+use test_trees::{
+    Done, NoAnswer, Show, Step, change_text, deleted_paths, inserted, keep, made, position, say,
+    tried,
+};
 
 /// Takes the step of this name, or passes on what is none of these.
 pub fn answer(s: &mut Session, step: &mut Step) -> Done {
@@ -27,12 +21,47 @@ pub fn answer(s: &mut Session, step: &mut Step) -> Done {
         "new" => new(s, step),
         "with_ast_node" => with_ast_node(s, step),
         "factory" => Some(*s.editors.last_mut()?.make_mut() = factory(step)?),
+        "map_editor" | "map_all" => map_by(s, step),
+        "insert" | "insert_with_whitespace" => insert(s, step),
+        "insert_all" | "insert_all_with_whitespace" => insert_all(s, step),
+        "delete" | "replace" | "delete_all" | "replace_with_many" | "add_annotation" => {
+            record(s, step)
+        }
+        "replace_all" => replace_all(s, step),
+        "add_annotation_all" => add_annotation_all(s, step),
+        "remove_attrs_and_docs" => remove_attrs_and_docs(s, step),
+        "remove_separated" => remove(s, step),
         "clashes_with" => clashes_with(s, step),
         "merge" => merge(s, step),
         "finish" => finish(s, step),
-        name if is_one_of(name, TOLD_OF_EDIT) => of_edit(s, step),
-        name if is_one_of(name, TOLD) => of_editor(s, step),
-        name if is_one_of(name, RECORDED) => record(s, step),
+        "next_editor" => next_editor(s, step),
+        "chain" => chain(s, step),
+        "step" => next(s, step),
+        "join" => join(s, step),
+        "chain_edits" => chain_edits(s, step),
+        _ => tell(s, step),
+    }
+}
+
+// What is told of the last editor and its changes, of the last edit, or of the last chain; or the step is passed on.
+fn tell(s: &mut Session, step: &mut Step) -> Done {
+    match step.name {
+        "check" => asked(s.editors.last()?.check(step.alloc), step),
+        "changes" => Some(step.print(&s.editors.last()?.changes().len())),
+        "deletions" => Some(deleted_paths(s.editors.last()?.changes(), step)),
+        "inserted" => Some(inserted(s.editors.last()?.changes(), step)),
+        "text" | "plain_text" => text(s, step),
+        "deleted" => deleted(s, step),
+        "fits" => fits(s, step),
+        "old_text" => Some(step.made_text(s.edits.last()?.old_root().text(step.alloc))),
+        "new_text" => Some(step.made_text(s.edits.last()?.new_root().text(step.alloc))),
+        "changed" => Some(step.paths(s.edits.last()?.changed_elements())),
+        "annotated" => annotated(s, step),
+        "find_element" => find_element(s, step),
+        "copies" => copies(s, step),
+        "cursors" => cursors(s, step),
+        "find" => find(s, step),
+        "last_changed" => Some(step.paths(s.chains.last()?.changed_elements())),
         _ => plans::answer(s, step),
     }
 }
@@ -53,18 +82,81 @@ fn with_ast_node(s: &mut Session, step: &mut Step) -> Done {
     Some(step.root(root.syntax()))
 }
 
-fn finish(s: &mut Session, step: &mut Step) -> Done {
-    let called = s.editors.pop()?.finish(step.alloc, &mut s.trees.ids);
-    keep_edit(s, called, step)
+// The builder's pairs go into the mapping of the last editor, by its call or by the builder's.
+fn map_by(s: &mut Session, step: &mut Step) -> Done {
+    let editor = s.editors.last_mut()?;
+    let builder = s.trees.builders.pop()?;
+    let called = match step.name {
+        "map_editor" => editor.add_mapping(step.alloc, builder),
+        _ => builder.finish(step.alloc, editor.make_mut().mappings()?),
+    };
+    asked(called, step)
 }
 
-fn is_one_of(name: &str, names: &str) -> bool {
-    for other in names.split(' ') {
-        if other == name {
-            return true;
-        }
-    }
-    false
+fn insert(s: &mut Session, step: &mut Step) -> Done {
+    let editor = s.editors.last_mut()?;
+    let (at, new) = position(&s.trees, step).zip(s.trees.element(step))?;
+    let called = match step.name {
+        "insert" => editor.insert(step.alloc, at, new),
+        _ => editor.insert_with_whitespace(step.alloc, &mut s.trees.ids, at, new),
+    };
+    asked(called, step)
+}
+
+fn insert_all(s: &mut Session, step: &mut Step) -> Done {
+    let editor = s.editors.last_mut()?;
+    let (at, new) = position(&s.trees, step).zip(s.trees.others(step))?;
+    let called = match step.name {
+        "insert_all" => editor.insert_all(step.alloc, at, new),
+        _ => editor.insert_all_with_whitespace(step.alloc, &mut s.trees.ids, at, new),
+    };
+    asked(called, step)
+}
+
+// By a call that takes an element, and what it takes beside that.
+fn record(s: &mut Session, step: &mut Step) -> Done {
+    let editor = s.editors.last_mut()?;
+    let (alloc, target) = (step.alloc, s.trees.element(step)?);
+    let called = match step.name {
+        "delete" => editor.delete(alloc, target),
+        "replace" => editor.replace(alloc, target, s.trees.element(step)?),
+        "delete_all" => editor.delete_all(alloc, target, s.trees.element(step)?),
+        "replace_with_many" => editor.replace_with_many(alloc, target, s.trees.others(step)?),
+        _ => editor.add_annotation(alloc, target, annotation(step)?),
+    };
+    asked(called, step)
+}
+
+fn replace_all(s: &mut Session, step: &mut Step) -> Done {
+    let editor = s.editors.last_mut()?;
+    let ((first, end), new) = s.trees.two_elements(step).zip(s.trees.others(step))?;
+    asked(editor.replace_all(step.alloc, first, end, new), step)
+}
+
+fn add_annotation_all(s: &mut Session, step: &mut Step) -> Done {
+    let (editor, first) = (s.editors.last_mut()?, annotation_of("1")?);
+    let elements = s.trees.others(step)?;
+    asked(editor.add_annotation_all(step.alloc, elements, first), step)
+}
+
+// Of a function or a statement.
+fn remove_attrs_and_docs(s: &mut Session, step: &mut Step) -> Done {
+    let editor = s.editors.last_mut()?;
+    let node = s.trees.node(step)?;
+    let called = if Fn::can_cast(node.kind()) {
+        Fn::cast(node)?.remove_attrs_and_docs(step.alloc, editor)
+    } else {
+        LetStmt::cast(node)?.remove_attrs_and_docs(step.alloc, editor)
+    };
+    asked(called, step)
+}
+
+// An element of a list, with a separator of a kind.
+fn remove(s: &mut Session, step: &mut Step) -> Done {
+    let editor = s.editors.last_mut()?;
+    let (target, separator) = (s.trees.element(step)?, step.kind());
+    let called = remove_separated(step.alloc, editor, &target, separator);
+    asked(called, step)
 }
 
 // The first clash that there would be if the last editor went into the one before it.
@@ -81,179 +173,124 @@ fn clashes_with(s: &mut Session, step: &mut Step) -> Done {
 
 // The last editor goes into the one before it, or is given back.
 fn merge(s: &mut Session, step: &mut Step) -> Done {
-    let (other, editor) = last_two(&mut s.editors)?;
-    let called = editor.merge(step.alloc, other);
-    Some(or_back(called, &mut s.editors, step))
+    let (other, editor) = (s.editors.pop()?, s.editors.last_mut()?);
+    if let Err((refusal, other)) = editor.merge(step.alloc, other) {
+        step.refuse(&refusal);
+        step.note(s.editors.push(other));
+    }
+    Some(())
 }
 
-/// Keeps an edit that a call gave, and answers its new root.
-pub fn keep_edit<E: Into<Error>>(
-    s: &mut Session,
-    called: Result<SyntaxEdit, E>,
-    step: &mut Step,
-) -> Done {
-    let edit = asked(called, step)?;
-    step.root(edit.new_root());
-    Some(step.note(s.edits.push(edit)))
+fn finish(s: &mut Session, step: &mut Step) -> Done {
+    let called = s.editors.pop()?.finish(step.alloc, &mut s.trees.ids);
+    keep_edit(s, called, step)
 }
 
-// The text of the old root of the last edit, that of the new one, the paths of changed elements, or of those with an
-// annotation, or what an element of the old tree became.
-fn of_edit(s: &Session, step: &mut Step) -> Done {
-    let edit = s.edits.last()?;
-    Some(match step.name {
-        "old_text" => step.made_text(edit.old_root().text(step.alloc)),
-        "new_text" => step.made_text(edit.new_root().text(step.alloc)),
-        "changed" => step.paths(edit.changed_elements()),
-        "annotated" => {
-            let annotation = annotation(step)?;
-            step.paths(edit.find_annotation(annotation))
-        }
-        _ => return find_element(s, edit, step),
-    })
+// The text that shows a change, by its number.
+fn text(s: &Session, step: &mut Step) -> Done {
+    let change = s.editors.last()?.changes().get(step.number::<usize>())?;
+    change_text(change, step)
 }
 
-fn find_element(s: &Session, edit: &SyntaxEdit, step: &mut Step) -> Done {
-    let old = s.trees.node(step)?;
-    let found = asked(edit.find_element(step.alloc, &old), step)?;
-    Some(match &found {
-        Some(node) => step.root_at(node),
-        None => step.put("none"),
-    })
-}
-
-// What is told of the last editor and of its changes, also of one by its number.
-fn of_editor(s: &Session, step: &mut Step) -> Done {
+fn deleted(s: &Session, step: &mut Step) -> Done {
     let editor = s.editors.last()?;
-    let changes = editor.changes();
-    Some(match step.name {
-        "check" => return asked(editor.check(step.alloc), step),
-        "changes" => step.print(&changes.len()),
-        "deletions" => deleted_paths(changes, step),
-        "inserted" => inserted(changes, step),
-        "deleted" => return deleted(s, editor, step),
-        "fits" => return fits(s, changes.first()?, step),
-        _ => return change_text(changes.get(step.number::<usize>())?, step),
-    })
-}
-
-fn deleted(s: &Session, editor: &SyntaxEditor, step: &mut Step) -> Done {
     let element = s.trees.element(step)?;
     let is_deleted = asked(editor.deleted(step.alloc, &element), step)?;
     Some(step.truth(is_deleted))
 }
 
-fn fits(s: &Session, change: &Change, step: &mut Step) -> Done {
+// Whether the first change is one of the node's tree.
+fn fits(s: &Session, step: &mut Step) -> Done {
+    let change = s.editors.last()?.changes().first()?;
     let node = s.trees.node(step)?;
     let root = made(node.tree_top(step.alloc), step)?;
     Some(step.truth(change.fits(&root)))
 }
 
-// By a call of the last editor.
-fn record(s: &mut Session, step: &mut Step) -> Done {
-    match step.name {
-        "delete" => delete(s, step),
-        "add_annotation_all" => add_annotation_all(s, step),
-        "remove_attrs_and_docs" => remove_attrs_and_docs(s, step),
-        "insert" | "insert_with_whitespace" => insert(s, step),
-        "insert_all" | "insert_all_with_whitespace" => insert_all(s, step),
-        "delete_all" | "replace" => record_two(s, step),
-        "replace_with_many" => replace_with_many(s, step),
-        "replace_all" => replace_all(s, step),
-        "add_annotation" => add_annotation(s, step),
-        _ => remove(s, step),
-    }
+fn annotated(s: &Session, step: &mut Step) -> Done {
+    let (edit, annotation) = (s.edits.last()?, annotation(step)?);
+    Some(step.paths(edit.find_annotation(annotation)))
 }
 
-fn delete(s: &mut Session, step: &mut Step) -> Done {
-    let editor = s.editors.last_mut()?;
+fn find_element(s: &Session, step: &mut Step) -> Done {
+    let edit = s.edits.last()?;
+    let old = s.trees.node(step)?;
+    match &asked(edit.find_element(step.alloc, &old), step)? {
+        Some(node) => step.root_at(node),
+        None => step.put("none"),
+    }
+    Some(())
+}
+
+fn next_editor(s: &mut Session, step: &mut Step) -> Done {
+    let edit = s.edits.last()?;
+    let editor = asked(edit.next_editor(step.alloc), step)?;
+    step.note(s.editors.push(editor));
+    let name = step.word();
+    keep_root(&mut s.trees, name, edit.new_root(), step)
+}
+
+fn chain(s: &mut Session, step: &mut Step) -> Done {
+    let chain = EditChain::new(step.alloc, s.trees.node(step)?);
+    Some(step.note(s.chains.push(chain)))
+}
+
+// Carries the last plan out as the next step of the last chain.
+fn next(s: &mut Session, step: &mut Step) -> Done {
+    let chain = s.chains.last_mut()?;
+    let plan = s.plans.pop()?;
+    tried(chain.run(step.alloc, &mut s.trees.ids, plan), step)?;
+    let name = step.word();
+    keep_root(&mut s.trees, name, chain.last_root(), step)
+}
+
+// The last chain goes behind the one before it, or is given back.
+fn join(s: &mut Session, step: &mut Step) -> Done {
+    let (other, chain) = (s.chains.pop()?, s.chains.last_mut()?);
+    if let Err((refusal, other)) = chain.then(other) {
+        step.refuse(&refusal);
+        step.note(s.chains.push(other));
+    }
+    Some(())
+}
+
+fn find(s: &Session, step: &mut Step) -> Done {
+    let chain = s.chains.last()?;
     let element = s.trees.element(step)?;
-    asked(editor.delete(step.alloc, element), step)
+    found(chain.find(step.alloc, &element), step)
 }
 
-fn add_annotation_all(s: &mut Session, step: &mut Step) -> Done {
-    let (editor, first) = (s.editors.last_mut()?, annotation_of("1")?);
-    let elements = s.trees.others(step)?;
-    asked(editor.add_annotation_all(step.alloc, elements, first), step)
+fn copies(s: &Session, step: &mut Step) -> Done {
+    let (edit, plan) = (s.edits.last()?, s.plans.last()?);
+    let element = s.trees.element(step)?;
+    found(edit.copies(step.alloc, plan, &element), step)
 }
 
-fn insert(s: &mut Session, step: &mut Step) -> Done {
-    let editor = s.editors.last_mut()?;
-    let (at, new) = position(&s.trees, step).zip(s.trees.element(step))?;
-    let (alloc, ids) = (step.alloc, &mut s.trees.ids);
-    asked(
-        match step.name {
-            "insert" => editor.insert(alloc, at, new),
-            _ => editor.insert_with_whitespace(alloc, ids, at, new),
-        },
-        step,
-    )
+fn found(called: Result<Vec<SyntaxElement>, AllocError>, step: &mut Step) -> Done {
+    let found = asked(called, step)?;
+    step.put(if found.is_empty() { "" } else { "ok" });
+    Some(step.paths(&found))
 }
 
-fn insert_all(s: &mut Session, step: &mut Step) -> Done {
-    let editor = s.editors.last_mut()?;
-    let (at, new) = position(&s.trees, step).zip(s.trees.others(step))?;
-    let (alloc, ids) = (step.alloc, &mut s.trees.ids);
-    asked(
-        match step.name {
-            "insert_all" => editor.insert_all(alloc, at, new),
-            _ => editor.insert_all_with_whitespace(alloc, ids, at, new),
-        },
-        step,
-    )
+fn chain_edits(s: &mut Session, step: &mut Step) -> Done {
+    let called = s.chains.last()?.text_edits(step.alloc);
+    keep(&mut s.trees, called, step)
 }
 
-// By a call that takes two elements.
-fn record_two(s: &mut Session, step: &mut Step) -> Done {
-    let editor = s.editors.last_mut()?;
-    let (first, second) = s.trees.two_elements(step)?;
-    asked(
-        match step.name {
-            "replace" => editor.replace(step.alloc, first, second),
-            _ => editor.delete_all(step.alloc, first, second),
-        },
-        step,
-    )
+// Where the elements of an annotation in the last edit stand in the new text and in the text edits of the last plan.
+fn cursors(s: &Session, step: &mut Step) -> Done {
+    let (edit, plan, annotation) = (s.edits.last()?, s.plans.last()?, annotation(step)?);
+    let edits = asked(plan.text_edits(step.alloc), step)?;
+    tell_cursors(edit.find_cursors(step.alloc, annotation, &edits), step)
 }
 
-fn replace_with_many(s: &mut Session, step: &mut Step) -> Done {
-    let editor = s.editors.last_mut()?;
-    let (old, new) = s.trees.element(step).zip(s.trees.others(step))?;
-    asked(editor.replace_with_many(step.alloc, old, new), step)
-}
-
-fn replace_all(s: &mut Session, step: &mut Step) -> Done {
-    let editor = s.editors.last_mut()?;
-    let ((first, end), new) = s.trees.two_elements(step).zip(s.trees.others(step))?;
-    asked(editor.replace_all(step.alloc, first, end, new), step)
-}
-
-fn add_annotation(s: &mut Session, step: &mut Step) -> Done {
-    let editor = s.editors.last_mut()?;
-    let (target, annotation) = s.trees.element(step).zip(annotation(step))?;
-    asked(editor.add_annotation(step.alloc, target, annotation), step)
-}
-
-// An element of a list, with a separator of a kind.
-fn remove(s: &mut Session, step: &mut Step) -> Done {
-    let editor = s.editors.last_mut()?;
-    let (target, separator) = (s.trees.element(step)?, step.kind());
-    let called = remove_separated(step.alloc, editor, &target, separator);
-    asked(called, step)
-}
-
-// Of a function or a statement.
-fn remove_attrs_and_docs(s: &mut Session, step: &mut Step) -> Done {
-    let editor = s.editors.last_mut()?;
-    let node = s.trees.node(step)?;
-    if Fn::can_cast(node.kind()) {
-        return asked(
-            Fn::cast(node)?.remove_attrs_and_docs(step.alloc, editor),
-            step,
-        );
+fn tell_cursors(called: Result<Vec<ElementCursor>, AllocError>, step: &mut Step) -> Done {
+    let found = asked(called, step)?;
+    let mut before = "ok ";
+    for cursor in &found {
+        say!(step, "{before}{}-{} ", cursor.start, cursor.end);
+        cursor.in_edit.show(step);
+        before = ", ";
     }
-    asked(
-        LetStmt::cast(node)?.remove_attrs_and_docs(step.alloc, editor),
-        step,
-    )
+    Some(step.put(if found.is_empty() { "ok none" } else { "" }))
 }

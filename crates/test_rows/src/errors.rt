@@ -39,55 +39,50 @@ const ENGINE: &[EngineError] = errors_of!(EngineError: TooLong, Memory);
 const CHAIN: &[ChainError] =
     errors_of!(ChainError: OtherRoot, TooLong, NoTreeNumber, Unfit { step: 1 }, Memory);
 
+// What an error prints, and its sentence, after others.
+macro_rules! say_error {
+    ($step:ident, $error:ident) => {{
+        $step.between(" | ");
+        say!($step, "{}: {}", $error, $error.help());
+    }};
+}
+
 /// Of the errors of the type that is named, one after another.
 pub fn print(step: &mut Step) {
     match step.word() {
         "Engine" => of_engines(step),
         "Chain" => of_chains(step),
-        "AllocError" => of_memory(step),
-        name => {
-            of_editor(name, step);
-            if step.text.is_empty() {
-                print_errors(name, step);
-            }
+        "AllocError" => {
+            let (any, of_trees) = (Error::from(AllocError), TreeError::from(AllocError));
+            say_error!(step, any);
+            say_error!(step, of_trees);
         }
+        name => of_editor(name, step),
     }
 }
 
 fn of_engines(step: &mut Step) {
     for error in ENGINE {
-        step.between(" | ");
-        say!(step, "{error}: {}", error.help());
+        say_error!(step, error);
     }
 }
 
 fn of_chains(step: &mut Step) {
     for error in CHAIN {
-        step.between(" | ");
-        say!(step, "{error}: {}", error.help());
+        say_error!(step, error);
     }
 }
 
-fn of_memory(step: &mut Step) {
-    let (any, of_trees) = (Error::from(AllocError), TreeError::from(AllocError));
-    say!(
-        step,
-        "{any}: {} | {of_trees}: {}",
-        any.help(),
-        of_trees.help()
-    );
-}
-
-// Of those that hold an error of this type, or are of this case.
+// Of those that hold an error of this type, or are of this case; or of trees, texts and their edits.
 fn of_editor(name: &str, step: &mut Step) {
     for error in EDITOR {
         match format!(in step.alloc; "{error:?}") {
-            Ok(case) if case.starts_with(name) => {
-                step.between(" | ");
-                say!(step, "{error}: {}", error.help());
-            }
+            Ok(case) if case.starts_with(name) => say_error!(step, error),
             Ok(_) => (),
             Err(_) => step.stop(NoAnswer::Memory),
         }
+    }
+    if step.text.is_empty() {
+        print_errors(name, step);
     }
 }

@@ -5,34 +5,31 @@
 //! The head of the table (`stdin`, beside this folder) says how a line is written, and docs/ROWS.md how to add one.
 #![tactic(auto)]
 
-mod asked;
-mod chains;
 mod editors;
 mod errors;
-mod indents;
 mod making;
 mod plans;
-mod runs;
 mod session;
-mod standing;
 
 use crate::session::Session;
 use std::io::ErrorKind;
 use std::process::ExitCode;
-use std::rt::Files;
 use std::{fs, io};
 use test_trees::{REFUSED, Run};
 
 fn main(rt: HostRuntime) -> io::Result<ExitCode> {
     let alloc = rt.alloc();
-    let mut run = Run::new(alloc, Session::new(alloc));
-    for line in rt.lines(alloc) {
+    take_table(&rt, &mut Run::new(alloc, Session::new(alloc)))
+}
+
+fn take_table(rt: &HostRuntime, run: &mut Run<Session>) -> io::Result<ExitCode> {
+    for line in rt.lines(rt.alloc()) {
         // The line was not read because memory ran out.
         if matches!(&line, Err(error) if error.kind() == ErrorKind::OutOfMemory) {
             return Ok(ExitCode::from(REFUSED));
         }
         if !run.is_cut {
-            take_line(&rt, &mut run, line?.as_str())?;
+            take_line(rt, run, line?.as_str())?;
         }
     }
     let status = run.close();
@@ -41,11 +38,7 @@ fn main(rt: HostRuntime) -> io::Result<ExitCode> {
 }
 
 // Takes a line of the table, and all lines of the group that it stands for, and prints what is said of them.
-fn take_line<R: Print + Files + AllocGlobal>(
-    rt: &R,
-    run: &mut Run<Session>,
-    text: &str,
-) -> io::Result<()> {
+fn take_line(rt: &HostRuntime, run: &mut Run<Session>, text: &str) -> io::Result<()> {
     if let Some(name) = run.take_line(text) {
         let file = format!(in rt.alloc(); "{name}.rows")?;
         match fs::read_to_string(rt, file.as_str()) {

@@ -1,11 +1,11 @@
-//! Annotations, elements made of parts, and the mapping of an editor.
+//! Annotations; elements made of parts; and blocks that are indented and dedented.
 
-use crate::asked::{annotation_of, asked, new_root};
-use crate::session::Session;
+use crate::session::{Session, annotation_of, asked, keep_root};
 use crate::{editors, errors};
-use cst_core::{SyntaxElement, SyntaxNode, SyntaxToken};
-use syntax_editor::{Annotations, Error, SyntaxFactory, WrapError};
-use test_trees::{Done, Step, Trees, kind_name, made, read_tree, say};
+use cst_core::ast::{BlockExpr, StmtList};
+use cst_core::{AstNode, SyntaxToken, TreeIds};
+use syntax_editor::{Annotations, AstNodeEdit, Error, IndentError, SyntaxFactory, SyntaxMapping};
+use test_trees::{CHANGED, Done, Step, kind_name, level, made, read_level, read_tree, say};
 
 /// Takes the step of this name, or passes on what is none of these.
 pub fn answer(s: &mut Session, step: &mut Step) -> Done {
@@ -16,46 +16,10 @@ pub fn answer(s: &mut Session, step: &mut Step) -> Done {
         "whitespace" => whitespace(s, step),
         "node" => node(s, step),
         "wrap" => wrap(s, step),
-        "map_editor" => map_editor(s, step),
-        "map_all" => map_all(s, step),
+        "indent_level" | "indent" | "reset_indent" | "dedent" => of_levels(s, step),
+        "indent_with_mapping" => indent_with_mapping(s, step),
         _ => editors::answer(s, step),
     }
-}
-
-fn token(s: &mut Session, step: &mut Step) -> Done {
-    let (kind, text) = (step.kind(), text_of_tree(step)?);
-    let factory = SyntaxFactory::without_mappings(step.alloc);
-    show_token(
-        factory.token(step.alloc, &mut s.trees.ids, kind, &text),
-        step,
-    )
-}
-
-fn whitespace(s: &mut Session, step: &mut Step) -> Done {
-    let (factory, text) = factory(step).zip(text_of_tree(step))?;
-    show_token(
-        factory.whitespace(step.alloc, &mut s.trees.ids, &text),
-        step,
-    )
-}
-
-fn node(s: &mut Session, step: &mut Step) -> Done {
-    let (kind, children) = (step.kind(), s.trees.others(step)?);
-    let factory = SyntaxFactory::without_mappings(step.alloc);
-    let called = factory.node(step.alloc, &mut s.trees.ids, kind, &children);
-    new_root(called, step)
-}
-
-fn map_editor(s: &mut Session, step: &mut Step) -> Done {
-    let editor = s.editors.last_mut()?;
-    let builder = s.trees.builders.pop()?;
-    asked(editor.add_mapping(step.alloc, builder), step)
-}
-
-fn map_all(s: &mut Session, step: &mut Step) -> Done {
-    let mapping = s.editors.last_mut()?.make_mut().mappings()?;
-    let builder = s.trees.builders.pop()?;
-    asked(builder.finish(step.alloc, mapping), step)
 }
 
 // Whether the calls of a source that begins at the first number give the annotations of the others, each above the one
@@ -88,44 +52,94 @@ fn text_of_tree(step: &mut Step) -> Option<String> {
     made(tree.to_string(step.alloc), step)
 }
 
+fn token(s: &mut Session, step: &mut Step) -> Done {
+    let (kind, text) = (step.kind(), text_of_tree(step)?);
+    let factory = SyntaxFactory::without_mappings(step.alloc);
+    let called = factory.token(step.alloc, &mut s.trees.ids, kind, &text);
+    show_token(called, step)
+}
+
+fn whitespace(s: &mut Session, step: &mut Step) -> Done {
+    let (factory, text) = factory(step).zip(text_of_tree(step))?;
+    let called = factory.whitespace(step.alloc, &mut s.trees.ids, &text);
+    show_token(called, step)
+}
+
 // A token's kind, its text, the number of its tree, and what it stands below.
 fn show_token<E: Into<Error>>(called: Result<SyntaxToken, E>, step: &mut Step) -> Done {
     let token = asked(called, step)?;
-    show_with_parent(&token, step)
-}
-
-fn show_with_parent(token: &SyntaxToken, step: &mut Step) -> Done {
     say!(step, "ok {} ", kind_name(token.kind()));
     step.quote(token.text());
-    let parent = made(token.parent(step.alloc), step)??;
-    show_parent(&parent, step)
+    show_parent(&token, step)
 }
 
-fn show_parent(parent: &SyntaxNode, step: &mut Step) -> Done {
+fn show_parent(token: &SyntaxToken, step: &mut Step) -> Done {
+    let parent = made(token.parent(step.alloc), step)??;
     let count = made(parent.children_with_tokens(step.alloc), step)?.len();
     let (kind, tree) = (kind_name(parent.kind()), parent.tree());
     Some(say!(step, " of {tree}, one of {count} below {kind}"))
+}
+
+fn node(s: &mut Session, step: &mut Step) -> Done {
+    let (kind, children) = (step.kind(), s.trees.others(step)?);
+    let factory = SyntaxFactory::without_mappings(step.alloc);
+    let called = factory.node(step.alloc, &mut s.trees.ids, kind, &children);
+    let node = asked(called, step)?;
+    Some(step.root(&node))
 }
 
 // A node, a kind, the elements that stand before `round`, and those after it.
 fn wrap(s: &mut Session, step: &mut Step) -> Done {
     let editor = s.editors.last_mut()?;
     let (node, kind) = (s.trees.node(step), step.kind());
-    let (node, (before, after)) = node.zip(elements_around(&s.trees, step))?;
+    let (before, after) = step.rest_around("round");
+    let (before, after) = (s.trees.elements(before), s.trees.elements(after));
+    let (node, (before, after)) = node.zip(step.read(before).zip(step.read(after)))?;
     let called = editor.wrap(step.alloc, &mut s.trees.ids, &node, kind, &before, &after);
-    wrapped(called, step)
-}
-
-fn wrapped(called: Result<SyntaxNode, WrapError>, step: &mut Step) -> Done {
     let copy = asked(called, step)?;
     Some(step.root_at(&copy))
 }
 
-fn elements_around(
-    trees: &Trees,
-    step: &mut Step,
-) -> Option<(Vec<SyntaxElement>, Vec<SyntaxElement>)> {
-    let (before, after) = step.rest_around("round");
-    let (before, after) = (trees.elements(before), trees.elements(after));
-    step.read(before).zip(step.read(after))
+// Of a list of statements, or of a block.
+fn of_levels(s: &mut Session, step: &mut Step) -> Done {
+    let node = s.trees.node(step)?;
+    if StmtList::can_cast(node.kind()) {
+        return indented(&StmtList::cast(node)?, &mut s.trees.ids, step);
+    }
+    indented(&BlockExpr::cast(node)?, &mut s.trees.ids, step)
+}
+
+// What a node's level is, or the new tree whose root it is.
+fn indented<N: AstNodeEdit>(node: &N, ids: &mut TreeIds, step: &mut Step) -> Done {
+    let alloc = step.alloc;
+    let called = match step.name {
+        "indent_level" => return level(node.indent_level(alloc), step),
+        "reset_indent" => node.reset_indent(alloc, ids),
+        "dedent" => node.dedent(alloc, ids, read_level(step)),
+        _ => node.indent(alloc, ids, read_level(step)),
+    };
+    let root = asked(called, step)?;
+    Some(step.root(root.syntax()))
+}
+
+// By a factory, whose mapping is the last one from then on, whatever the call answers but want of memory, which leaves
+// the mapping empty. The new block goes by the name `it`.
+fn indent_with_mapping(s: &mut Session, step: &mut Step) -> Done {
+    let (block, level) = (s.trees.typed::<BlockExpr>(step), read_level(step));
+    let (block, mut factory) = block.zip(factory(step))?;
+    let called = block.indent_with_mapping(step.alloc, &mut s.trees.ids, level, &mut factory);
+    let is_memory = matches!(&called, Err(IndentError::Memory));
+    match factory.mappings() {
+        Some(mapping) if !is_memory => keep_mapping(s, mapping, step),
+        Some(mapping) if mapping.len() > 0 => step.stop(CHANGED),
+        _ => (),
+    }
+    let block = asked(called, step)?;
+    keep_root(&mut s.trees, "it", block.syntax(), step)
+}
+
+fn keep_mapping(s: &mut Session, mapping: &SyntaxMapping, step: &mut Step) {
+    if let Some(copy) = made(mapping.try_clone(step.alloc), step) {
+        step.note(s.trees.mappings.push(copy));
+    }
 }

@@ -1,12 +1,14 @@
-//! What the steps of a row work on.
+//! What the steps of a row work on, what stands for it, made without memory, and what calls of the editor give or
+//! refuse.
 
 use crate::making;
-use crate::standing::editors_standing;
-use cst_core::SyntaxElement;
+use cst_core::{SyntaxElement, SyntaxNode};
 use edit_chain::EditChain;
 use std::alloc::Global;
-use syntax_editor::{EditPlan, SyntaxAnnotation, SyntaxEdit, SyntaxEditor};
-use test_trees::{Done, Group, Standing, Step, Steps, Taken, Trees};
+use syntax_editor::{
+    Annotations, Change, EditPlan, Error, SyntaxAnnotation, SyntaxEdit, SyntaxEditor,
+};
+use test_trees::{Done, Group, Standing, Step, Steps, Taken, Trees, made, number_of, tried};
 
 /// What the steps of a row work on, the trees of the table, and what is answered. A step on an editor, a plan, an
 /// edit, a mapping or a builder is one on the last that was made.
@@ -34,6 +36,17 @@ impl Session {
     }
 }
 
+// Values in their order, each by what stands for it.
+macro_rules! group_of {
+    ($value:ident of $values:expr => $standing:expr) => {{
+        let mut group = Group::default();
+        for $value in $values {
+            group.add(&$standing);
+        }
+        group
+    }};
+}
+
 impl Steps for Session {
     fn define(&mut self, name: &str, tree: &str) -> Taken {
         self.trees.define(name, tree)
@@ -49,28 +62,16 @@ impl Steps for Session {
     }
 
     fn standing(&self) -> Standing {
-        let mut mappings = Group::default();
-        for mapping in &self.trees.mappings {
-            mappings.add(&mapping.len());
-        }
-        let mut plans = Group::default();
-        for plan in &self.plans {
-            plans.add(&plan.len());
-        }
-        let mut chains = Group::default();
-        for chain in &self.chains {
-            chains.add(&(chain.steps().len(), chain.last_root()));
-        }
         Standing {
             next: self.trees.ids.peek(),
             groups: [
-                mappings,
-                editors_standing(&self.editors),
-                plans,
+                group_of!(mapping of &self.trees.mappings => mapping.len()),
+                group_of!(editor of &self.editors => standing_of(editor.changes())),
+                group_of!(plan of &self.plans => plan.len()),
                 Group::of_count(self.trees.builders.len()),
                 Group::of_count(self.trees.changes.len()),
                 Group::of_count(self.registrations.len()),
-                chains,
+                group_of!(chain of &self.chains => (chain.steps().len(), chain.last_root())),
             ],
         }
     }
@@ -78,4 +79,48 @@ impl Steps for Session {
     fn answer(&mut self, step: &mut Step) -> Done {
         making::answer(self, step)
     }
+}
+
+fn standing_of(changes: &[Change]) -> u64 {
+    let mut group = Group::default();
+    for change in changes {
+        group.add_change(change);
+    }
+    group.all
+}
+
+/// What a call gave. If it is refused, what the refusal prints is the answer.
+pub fn asked<T, E: Into<Error>>(called: Result<T, E>, step: &mut Step) -> Option<T> {
+    match called {
+        Ok(given) => Some(given),
+        Err(refusal) => tried::<T, Error>(Err(refusal.into()), step),
+    }
+}
+
+/// Keeps an edit that a call gave, and answers its new root.
+pub fn keep_edit<E: Into<Error>>(
+    s: &mut Session,
+    called: Result<SyntaxEdit, E>,
+    step: &mut Step,
+) -> Done {
+    let edit = asked(called, step)?;
+    step.root(edit.new_root());
+    Some(step.note(s.edits.push(edit)))
+}
+
+/// Answers a new root, which goes by this name then.
+pub fn keep_root(trees: &mut Trees, name: &str, root: &SyntaxNode, step: &mut Step) -> Done {
+    step.root(root);
+    let kept = trees.add(name, made(root.try_clone(step.alloc), step)?);
+    step.read(kept)
+}
+
+/// The annotation with this number, if that is one.
+pub fn annotation_of(digits: &str) -> Option<SyntaxAnnotation> {
+    Annotations::new(number_of(digits).ok()?).next()
+}
+
+/// The annotation of the next word, or the first one.
+pub fn annotation(step: &mut Step) -> Option<SyntaxAnnotation> {
+    annotation_of(step.word_or("1"))
 }
