@@ -299,16 +299,14 @@ class Lab:
         return self.room / f"libraries/crates/{crate}/out/rlib/{crate}.rlib"
 
     def prove_anew(self, crates):
-        """Has `rt ci` prove these libraries, or take what it has proved on this machine. Without RT_JOBS it takes several processors for a proof that
-        no other waits beside."""
+        """Has `rt ci` prove these libraries, or take what it has proved on this machine."""
         folder = self.room / "libraries"
         for crate in crates:
             shutil.copytree(self.room / "crates" / crate, folder / "crates" / crate)
         shutil.copy(ROOT / "HANDLES", folder)
         lines = [line for line in (ROOT / "crates.txt").read_text().splitlines() if re.match(r"\w*", line)[0] in crates]
         (folder / "crates.txt").write_text("".join(f"{line}\n" for line in lines))
-        told = {name: it for name, it in os.environ.items() if name != "RT_JOBS"}
-        ran = subprocess.run(["rt", "ci"], cwd=folder, env=told, capture_output=True, text=True, check=False)
+        ran = subprocess.run(["rt", "ci"], cwd=folder, capture_output=True, text=True, check=False)
         if ran.returncode:
             sys.exit(f"planted: the libraries below are not proved\n{ran.stdout[-2000:]}{ran.stderr[-500:]}")
 
