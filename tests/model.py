@@ -101,9 +101,17 @@ def at(tree, path):
         tree = tree.children[slot]
     return tree
 
-def paths(tree, top=()):
+def _parts_at(top, tree):
+    return [(top, tree)] + [part for slot, child in enumerate(children(tree)) for part in _parts_at(top + (slot,), child)]
+
+@lru_cache(maxsize=16)
+def _parts(tree):
+    """Each part with its path, in document order, the top first."""
+    return _parts_at((), tree)
+
+def paths(tree):
     """The paths of all parts in document order, the top first."""
-    return [top] + [path for slot, child in enumerate(children(tree)) for path in paths(child, top + (slot,))]
+    return [path for path, _ in _parts(tree)]
 
 def relabelled(tree, function):
     if is_token(tree):
@@ -122,10 +130,10 @@ length_limit = 4294967296
 # Document order
 
 def node_paths(tree):
-    return [path for path in paths(tree) if not is_token(at(tree, path))]
+    return [path for path, part in _parts(tree) if not is_token(part)]
 
 def tokens_before(tree, path):
-    return [other for other in paths(tree) if is_token(at(tree, other)) and precedes(other, path)]
+    return [other for other, part in _parts(tree) if is_token(part) and precedes(other, path)]
 
 def start(tree, path):
     return sum(len(at(tree, other).bytes) for other in tokens_before(tree, path))
@@ -486,6 +494,7 @@ class Origin(NamedTuple):
     address: Tuple
     change: Optional[int]
 
+@lru_cache(maxsize=16)
 def plain(tree):
     return relabelled(tree, lambda label: label.kind)
 
@@ -567,7 +576,7 @@ def is_brought(plan, label):
 
 def topmost(tree, passes):
     """The paths, in document order, of the elements whose labels pass a test and whose parents' labels do not."""
-    holds = {path: passes(at(tree, path).label) for path in paths(tree)}
+    holds = {path: passes(part.label) for path, part in _parts(tree)}
     return [path for path, it_holds in holds.items() if it_holds and not (path and holds[parent_path(path)])]
 
 def changed(plan):
@@ -578,8 +587,8 @@ def changed(plan):
 def _copies(plan):
     """`copies_of` for each address that has a copy in the new tree."""
     table = {}
-    for path in paths(new_tree(plan)):
-        table.setdefault(at(new_tree(plan), path).label.address, []).append(path)
+    for path, part in _parts(new_tree(plan)):
+        table.setdefault(part.label.address, []).append(path)
     return table
 
 def copies_of(plan, an_address):
