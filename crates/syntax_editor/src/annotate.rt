@@ -24,9 +24,7 @@ impl SyntaxEditor {
         ensures unchanged { OnErr result (self.new ≡ self.old) }
     {
         let registration = (element.syntax_element(alloc)?, annotation);
-        self.registrations
-            .push(registration)
-            .map_err(|_| RecordError::Memory)?;
+        self.registrations.push(registration)?;
         Ok(())
     }
 
@@ -46,9 +44,7 @@ impl SyntaxEditor {
         let mut added = Vec::with_capacity(alloc, elements.len())?;
         for element in elements {
             let element = element.syntax_element(alloc)?;
-            added
-                .push((element, annotation))
-                .map_err(|_| RecordError::Memory)?;
+            added.push((element, annotation))?;
         }
         Ok(self.registrations.append(&mut added)?)
     }

@@ -34,15 +34,15 @@ impl fmt::Display for RecordError {
     ghost output = { λ e. Some (record_error_text e) };
 
     fn fmt<W: fmt::Write>(&self, f: &mut fmt::Formatter<W>) -> fmt::Result {
-        match self {
-            RecordError::Foreign => f.write_str("Foreign"),
-            RecordError::BadRange => f.write_str("BadRange"),
-            RecordError::DeletesRoot => f.write_str("DeletesRoot"),
-            RecordError::RootReplacement => f.write_str("RootReplacement"),
-            RecordError::LevelTooLarge => f.write_str("LevelTooLarge"),
-            RecordError::NoTreeNumber => f.write_str("NoTreeNumber"),
-            RecordError::Memory => f.write_str("Memory"),
-        }
+        f.write_str(match self {
+            RecordError::Foreign => "Foreign",
+            RecordError::BadRange => "BadRange",
+            RecordError::DeletesRoot => "DeletesRoot",
+            RecordError::RootReplacement => "RootReplacement",
+            RecordError::LevelTooLarge => "LevelTooLarge",
+            RecordError::NoTreeNumber => "NoTreeNumber",
+            RecordError::Memory => "Memory",
+        })
     }
 }
 

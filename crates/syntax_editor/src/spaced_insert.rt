@@ -66,7 +66,7 @@ impl SyntaxEditor {
         self.test_position(&at)?;
         let element = element.syntax_element(alloc)?;
         let mut elements = Vec::new(alloc);
-        elements.push(element).map_err(|_| RecordError::Memory)?;
+        elements.push(element)?;
         self.insert_all_with_whitespace(alloc, ids, at, elements)
     }
 }
