@@ -14,7 +14,8 @@ is not that names it. One whose function is only said to call another that is no
 comes out proved, is tried alone, by a check of the whole crate. A bug that does not compile, or that the borrow checker refuses for its form, shows
 nothing, and fails.
 
-A crate is stale if the kit changed, its bugs, its sources or definitions, or the definitions and clauses of the crates below it.
+A crate is stale if the kit changed, its bugs, its sources or definitions, or what it can see of the crates below it: definitions outside of
+`specs/inner`, and clauses, but for those of private functions.
 """
 
 import copy
@@ -53,9 +54,12 @@ def code(file):
     return re.sub(r"^ *(?://|--).*\n|^\n", "", file.read_text(), flags=re.M)
 
 
-def clauses(text):
-    """The contracts, invariants and models of a source, without its bodies."""
+def clauses(file, text):
+    """The contracts, invariants and models of a source that other crates can see, without its bodies."""
+    private = [it for it in functions_of(file, text) if it.is_private]
     for clause in CLAUSE.finditer(text):
+        if any(it.start <= clause.start() < it.end for it in private):
+            continue
         end = text.find("\n", clause.start())
         while text.count("{", clause.start(), end) > text.count("}", clause.start(), end):
             end = text.find("\n", end + 1)
@@ -68,9 +72,10 @@ def key(crate):
     told += [f"{bug.name}\n{bug.read_text()}" for bug in bugs_of(crate)]
     told += [f"{file.relative_to(crates)}\n{code(file)}" for file in sorted(crates.glob(f"{crate}/src/**/*.rt"))]
     for name in below(crate, uses_of()):
-        told += [clause for file in sorted(crates.glob(f"{name}/src/**/*.rt")) for clause in clauses(code(file))]
+        told += [clause for file in sorted(crates.glob(f"{name}/src/**/*.rt")) for clause in clauses(file.name, code(file))]
     for name in [crate, *below(crate, uses_of())]:
-        told += [f"{file.relative_to(crates)}\n{code(file)}" for file in sorted(crates.glob(f"{name}/specs/**/*.antt"))]
+        files = [it for it in sorted(crates.glob(f"{name}/specs/**/*.antt")) if name == crate or "specs/inner" not in f"{it}"]
+        told += [f"{file.relative_to(crates)}\n{code(file)}" for file in files]
     return hashlib.sha256("\n".join(told).encode()).hexdigest()
 
 
@@ -102,7 +107,7 @@ def write(crates):
 
 HEAD = re.compile(r"^(?:pub )?(?:impl(?:<[^>]*>)? (?:(?P<of>[^{\n]*?) for )?|trait )&?(?:\w+::)*(?P<type>\w+)", re.M)
 FUNCTION = re.compile(
-    r"""^(?:(?P<indent> *)#\[cycle\((?P<cycle>\w+)\)\]\n)?(?P<inside> *)(?:pub(?:\([^)]*\))? )?(?:extern "C" )?fn (?P<name>\w+)""", re.M
+    r"""^(?:(?P<indent> *)#\[cycle\((?P<cycle>\w+)\)\]\n)?(?P<inside> *)(?P<pub>pub )?(?:pub\([^)]*\) )?(?:extern "C" )?fn (?P<name>\w+)""", re.M
 )
 
 
@@ -119,6 +124,8 @@ class Function:
         self.type = head[0]["type"] if head else ""
         of = re.sub(r"\w+::", "", head[0]["of"] or "") if head else ""
         self.owner = self.type + "".join(re.findall(r"\w+", of))
+        # A method of a trait is as public as the trait.
+        self.is_private = not (found["pub"] or of or head and "trait " in head[0][0])
 
     def key(self):
         return self.module, self.owner, self.name
