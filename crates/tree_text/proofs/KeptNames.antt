@@ -1,6 +1,7 @@
 -- The table of the kinds that are given names.
 --     kept_none         where there are none
 --     kept_after        one more kind with a name, that had none
+--     kept_unchanged    after a change of the table that was refused
 --     kind_found        a kind that is found has the name
 --     kind_missing      where none is found, none has it
 use Rattle.std.proofs.Common.{◌≡◌, ◌≢◌, ℕ, Bool, true, false, cond, List, [], ◌∷◌, ◌++◌, Option, None, Some, IsNone, IfSome, String, inl, inr, nat_eq, refl, sym, ap, ◌∙◌, subst, string_bytes}
@@ -55,6 +56,15 @@ module _ {S : Type 0} (old new : HashMap (String Global) SyntaxKind S) (given : 
 pub kept_after : {S : Type 0} (old new : HashMap (String Global) SyntaxKind S) (gs hs : List GivenName) (g : GivenName) → AreKept old (entries gs) → name_in (entries gs) g.kind.0 ≡ None → is_name (string_bytes g.name) ≡ true → ((k : ℕ) → name_in (entries gs) k ≢ Some (string_bytes g.name)) → hs ≡ gs ++ g ∷ [] → ((q : List ℕ) → get_by_text new q ≡ update bytes_eq (get_by_text old) (string_bytes g.name) (Some g.kind) q) → AreKept new (entries hs)
 kept_after old new gs hs g kept none spelled free is put =
     subst (λ l. AreKept new l) (sym (ap entries is ∙ map-append entry gs (g ∷ []))) (kept-more old new (entries gs) g.kind (string_bytes g.name) kept none spelled free put)
+
+pub kept_unchanged : {S : Type 0} (old new : HashMap (String Global) SyntaxKind S) (given : List KindName) → AreKept old given → new.entries ≡ old.entries → AreKept new given
+kept_unchanged old new given kept same =
+    let found : (q : List ℕ) → get_by_text new q ≡ get_by_text old q = λ q. ap (lookup (λ k. bytes_eq q (string_bytes k))) same in
+    record {
+      named = kept.named;
+      sound = λ q k is. kept.sound q k (sym (found q) ∙ is);
+      full = λ q is. kept.full q (sym (found q) ∙ is);
+    }
 
 pub kind_found : {S : Type 0} (table : HashMap (String Global) SyntaxKind S) (given : List KindName) (name : List ℕ) (found : Option SyntaxKind) → AreKept table given → found ≡ get_by_text table name → IfSome found (λ kind. name_in given kind.0 ≡ Some name)
 kind_found table given name None kept is = tt

@@ -1,14 +1,17 @@
 -- Lines of a tree, node by node.
 --     ended, four_pieces             what a last piece ends; four pieces, one after another
---     into_first, past_node          where the text of all that is left ends does not change
+--     token_counted                  the text of a token that is left is counted in full
+--     into_first, past_token, past_node
+--                                    where the text of all that is left ends does not change
 --     left_lines                     what is left to be written, where the text of the children that are left of the innermost node starts at a byte
---     node_lined, node_past          what is written and what is left are the whole after a node's own line, and past a node
-use Rattle.std.proofs.Common.{◌≡◌, ℕ, suc, ◌+◌, List, [], ◌∷◌, ◌++◌, length, codes, refl, sym, ap, ap₂, ◌∙◌, append_assoc, Result, Ok, Err, OnOk, is_ok, if◌then◌else◌, arith}
+--     node_lined, token_lined, node_past
+--                                    what is written and what is left are the whole after a node's own line, after a token's, and past a node
+use Rattle.std.proofs.Common.{◌≡◌, ◌<◌, ℕ, suc, ◌+◌, List, [], ◌∷◌, ◌++◌, length, codes, refl, sym, ap, ap₂, ◌∙◌, append_assoc, Result, Ok, Err, OnOk, is_ok, if◌then◌else◌, arith}
 use Rattle.std.proofs.lemmas.List.{length-append}
 use Rattle.std.proofs.lemmas.List.Sums.{sum_by_push}
 use Rattle.std.specs.Borrow.{Bor}
 use Rattle.cst_core.specs.Tree.{forest, text}
-use Rattle.cst_core.specs.Green.{Branch, branch_tree, texts}
+use Rattle.cst_core.specs.Green.{Branch, Leaf, branch_tree, leaf_tree, texts, capped_length, length_limit}
 use Rattle.cst_core.specs.GreenElement.{element_tree, element_trees}
 use Rattle.green_tree.specs.declared.green.GreenElement.{GreenElement}
 use Rattle.tree_text.specs.Lines.{line, lines, forest_lines}
@@ -39,6 +42,15 @@ module _ (next : ℕ) (e : GreenElement) (after : List GreenElement) (above : Re
       let sum = sum_by_push (λ q. rest_long q.now) above r in
       omega (arith, first_long, own, others, sum)
 
+  token_long : (l : Leaf) → element_tree e ≡ leaf_tree l → rest_long (e ∷ after) ≡ length l.text + rest_long after
+  token_long l is = first_long ∙ ap (λ t. length (text t) + rest_long after) is
+
+  pub token_counted : (l : Leaf) (start whole : ℕ) → element_tree e ≡ leaf_tree l → next + (rest_long (e ∷ after) + long_after above) ≡ start + whole → start + whole < length_limit → capped_length l.text ≡ length l.text
+  token_counted l start whole is starts short = omega (arith, token_long l is)
+
+  pub past_token : (l : Leaf) (long end : ℕ) → element_tree e ≡ leaf_tree l → long ≡ length l.text → next + (rest_long (e ∷ after) + long_after above) ≡ end → next + long + (rest_long after + long_after above) ≡ end
+  past_token l long end is count starts = omega (arith, token_long l is)
+
 pub past_node : (next : ℕ) (above : Rests) (r : Bor (List GreenElement)) (end : ℕ) → next + (0 + long_after (above ++ r ∷ [])) ≡ end → next + (rest_long r.now + long_after above) ≡ end
 past_node next above r end starts = let sum = sum_by_push (λ q. rest_long q.now) above r in omega (arith, sum)
 
@@ -55,6 +67,15 @@ module _ (name : ℕ → List ℕ) where
         (sym (append_assoc (lines name (indent (1 + length above)) next (element_tree e)) (rest_lines name (1 + length above) (next + length (text (element_tree e))) after) (lines_after name 1 (next + length (text (element_tree e)) + rest_long after) above))
         ∙ ap (λ n. rest_lines name (1 + length above) next (e ∷ after) ++ lines_after name 1 n above) (sym end))
         ∙ so_far
+
+    pub token_lined : (l : Leaf) (long : ℕ) → element_tree e ≡ leaf_tree l → long ≡ length l.text → new ≡ out ++ lines name (indent (1 + length above)) next (leaf_tree l) → new ++ left_lines (next + long) after above ≡ whole
+    token_lined l long is count wrote =
+        let first = lines name (indent (1 + length above)) next (element_tree e) in
+        let start : next + long ≡ next + length (text (element_tree e)) = ap (λ n. next + n) count ∙ ap (λ t. next + length (text t)) (sym is) in
+        let own : new ≡ out ++ first = wrote ∙ ap (λ t. out ++ lines name (indent (1 + length above)) next t) (sym is) in
+        ap₂ (λ s n. s ++ left_lines n after above) own start
+        ∙ append_assoc out first (left_lines (next + length (text (element_tree e))) after above)
+        ∙ split
 
     pub node_lined : (b : Branch) (rest : List GreenElement) (r : Bor (List GreenElement)) → element_tree e ≡ branch_tree b → element_trees rest ≡ b.children → r.now ≡ after
         → new ≡ out ++ (line (indent (1 + length above)) (name b.kind) next (length (texts b.children)) ++ codes "\n") → new ++ left_lines next rest (above ++ r ∷ []) ≡ whole

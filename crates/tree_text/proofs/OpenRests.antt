@@ -5,15 +5,18 @@
 --     lines_after, lines_after-push  the lines of these, whose text starts at a byte; with one more node, its lines come first
 --     rest_long, long_after          how long the text of children is; that of these
 --     work                           a measure that falls where a node is opened, an element passed, a node closed
-use Rattle.std.proofs.Common.{◌≡◌, ℕ, suc, ◌+◌, ◌*◌, List, [], ◌∷◌, ◌++◌, length, sym, ap, ap₂, ◌∙◌, append_assoc, append-nil, arith}
+--     work_opened, work_passed, work_closed
+--                                    it does
+use Rattle.std.proofs.Common.{◌≡◌, ◌<◌, ℕ, suc, ◌+◌, ◌*◌, List, [], ◌∷◌, ◌++◌, length, sym, ap, ap₂, ◌∙◌, append_assoc, append-nil, arith}
 use Rattle.std.specs.Prelude.{sum_by}
+use Rattle.std.proofs.lemmas.List.{length-append}
 use Rattle.std.proofs.lemmas.List.Sums.{sum_by_push}
 use Rattle.std.specs.Borrow.{Bor}
 use Rattle.cst_core.specs.Tree.{forest}
-use Rattle.cst_core.specs.Green.{texts}
-use Rattle.cst_core.specs.GreenElement.{element_trees}
+use Rattle.cst_core.specs.Green.{Branch, Leaf, branch_tree, leaf_tree, texts}
+use Rattle.cst_core.specs.GreenElement.{element_tree, element_trees}
 use Rattle.green_tree.specs.declared.green.GreenElement.{GreenElement}
-use Rattle.green_tree.specs.inner.TreeSize.{forest_size}
+use Rattle.green_tree.specs.inner.TreeSize.{size, forest_size}
 use Rattle.tree_text.specs.Lines.{forest_lines}
 use Rattle.tree_text.specs.inner.Indents.{indent}
 
@@ -64,3 +67,25 @@ rest_size es = forest_size (forest (element_trees es))
 
 abbrev pub work : List GreenElement → Rests → ℕ
 work rest rs = 2 * (rest_size rest + sum_by (λ r. rest_size r.now) rs) + length rs
+
+module _ (rest : List GreenElement) (e : GreenElement) (after : List GreenElement) (split : rest ≡ e ∷ after) where
+  pub work_opened : (below : List GreenElement) (rs new : Rests) (r : Bor (List GreenElement)) (b : Branch) → element_tree e ≡ branch_tree b → element_trees below ≡ b.children → new ≡ rs ++ r ∷ [] → r.now ≡ after → work below new < work rest rs
+  work_opened below rs new r b is children pushed left =
+      let first : size (element_tree e) ≡ forest_size (forest b.children) + 1 = ap size is in
+      let inside : rest_size below ≡ forest_size (forest b.children) = ap (λ ts. forest_size (forest ts)) children in
+      let all : rest_size rest ≡ size (element_tree e) + rest_size after = ap rest_size split in
+      let others : rest_size r.now ≡ rest_size after = ap rest_size left in
+      let sum : sum_by (λ q. rest_size q.now) new ≡ sum_by (λ q. rest_size q.now) rs + rest_size r.now = ap (sum_by (λ q. rest_size q.now)) pushed ∙ sum_by_push (λ q. rest_size q.now) rs r in
+      omega (arith, ap length pushed, length-append rs (r ∷ []))
+
+  pub work_passed : (rs : Rests) (l : Leaf) → element_tree e ≡ leaf_tree l → work after rs < work rest rs
+  work_passed rs l is =
+      let first : size (element_tree e) ≡ 1 = ap size is in
+      let all : rest_size rest ≡ size (element_tree e) + rest_size after = ap rest_size split in
+      omega arith
+
+pub work_closed : (rest : List GreenElement) (rs new : Rests) (r : Bor (List GreenElement)) → rest ≡ [] → rs ≡ new ++ r ∷ [] → work r.now new < work rest rs
+work_closed rest rs new r none popped =
+    let all : rest_size rest ≡ 0 = ap rest_size none in
+    let sum : sum_by (λ q. rest_size q.now) rs ≡ sum_by (λ q. rest_size q.now) new + rest_size r.now = ap (sum_by (λ q. rest_size q.now)) popped ∙ sum_by_push (λ q. rest_size q.now) new r in
+    omega (arith, ap length popped, length-append new (r ∷ []))

@@ -5,7 +5,7 @@ ghost use Rattle.tree_text.specs.KindNames.{name_in, next_kind, is_name, is_name
 
 use crate::name_error::NameError;
 use cst_core::SyntaxKind;
-use std::alloc::Global;
+use std::alloc::{AllocError, Global};
 use std::collections::HashMap;
 use std::marker::Model;
 
@@ -90,9 +90,21 @@ impl KindNames {
         if self.kind(name).is_some() {
             return Err(NameError::Taken);
         }
+        self.put(alloc, kind, name)?;
+        Ok(())
+    }
+
+    // Gives a name to a kind that has none. No kind has the name.
+    fn put(&mut self, alloc: Global, kind: SyntaxKind, name: &str) -> Result<(), AllocError>
+        requires unnamed { name_in self.old kind.0 ≡ None }
+        requires spelled { is_name name.now ≡ true }
+        requires free { (k : ℕ) → name_in self.old k ≢ Some name.now }
+        ensures ok { OnOk result (self.new ≡ self.old ++ (kind.0, name.now) ∷ []) }
+        ensures err { OnErr result (self.new ≡ self.old) }
+    {
+        self.given.reserve(1)?;
         let key = String::from_str(alloc, name)?;
         let name = String::from_str(alloc, name)?;
-        self.given.reserve(1)?;
         self.kinds.insert(key, kind)?;
         self.given.push(GivenName { kind, name }).unwrap();
         Ok(())

@@ -102,17 +102,8 @@ impl<'a> Reader<'a> {
         let Some((taken, left)) = text.split_at_checked(count) else {
             return Ok(text);
         };
-        self.push_to_word(taken)?;
-        Ok(left)
-    }
-
-    fn push_to_word(&mut self, taken: &str) -> Result<(), ExpressionError>
-        ensures ok { OnOk result
-            (reading self.new ≡ record (reading self.old) { word = string_bytes self.old.word ++ taken.now }) }
-        ensures err { IfErr result (IsRefused Nowhere Nowhere Nowhere ⊥) }
-    {
         self.word.push_str(taken)?;
-        Ok(())
+        Ok(left)
     }
 
     // How many bytes at the start of the text only make the word longer.
@@ -256,11 +247,10 @@ impl<'a> Reader<'a> {
         ensures unknown { IfErr result (IsRefused Nowhere (λ x. (x ≡ self.old.at - length (string_bytes self.old.word))
             × ((k : ℕ) → name_in self.old.names.now k ≢ Some (string_bytes self.old.word))) Nowhere ⊥) }
     {
-        let at = self.word_at();
-        let kind = self
-            .last_kinds
-            .kind(self.names, &self.word)
-            .ok_or(ExpressionError::UnknownKind { at })?;
+        let Some(kind) = self.last_kinds.kind(self.names, &self.word) else {
+            let at = self.word_at();
+            return Err(ExpressionError::UnknownKind { at });
+        };
         self.word.clear();
         Ok(kind)
     }

@@ -1,8 +1,9 @@
-use Rattle.std.proofs.Common.{◌≡◌, ℕ, List, [], Result, Ok, Err, IfErr, IsErrAnd, MatchResult, append-nil, refl, sym, subst}
+use Rattle.std.proofs.Common.{◌≡◌, ◌≤◌, ◌+◌, ℕ, List, [], Result, Ok, Err, IfErr, IsErrAnd, MatchResult, OnErr, append-nil, refl, sym, subst}
 use Rattle.cst_core.specs.Green.{IsTooLong, branch_tree}
 use Rattle.cst_core.specs.Tree.{SyntaxTree, text}
 use Rattle.cst_core.specs.TreeError.{TreeError}
 use Rattle.cst_core.specs.TreeError.TheVariants as Trees
+use Rattle.tree_text.specs.Depth.{depth, depth_limit}
 use Rattle.tree_text.specs.Grammar.{IsExpression, is_gap_blank}
 use Rattle.tree_text.specs.KindNames.{name_in}
 use Rattle.tree_text.specs.Refusals.{BeginsAs, ReadRefuses}
@@ -12,6 +13,7 @@ use Rattle.tree_text.specs.declared.gaps.Gaps.TheVariants.{Lines}
 use Rattle.tree_text.proofs.EncodedBytes.{are-gaps}
 use Rattle.tree_text.proofs.Names.{own_names}
 use Rattle.tree_text.proofs.OneTree.{same-tree}
+use Rattle.tree_text.proofs.Results.{kept_by_map_err, of_the_value}
 use Rattle.tree_text.proofs.root.read_root.Goals as goal
 
 -- an error that is exchanged for another one
@@ -40,3 +42,27 @@ returns-clause-refused c = λ left.
       | Trees.NoTreeNumber ↦ λ was memory other'. absurd (left (c.new_root.ensures.no_number.0 was).0)
       | Trees.Memory ↦ λ was memory other'. subst P (sym (memory refl)) tt
     ] is q.0 q.1)
+
+pub returns-clause-root : goal.returns-clause-root
+returns-clause-root c =
+    kept_by_map_err c.new_root.result c.map_err.result (λ n. n.number ≡ c.args.ids.now × n.path ≡ [] × depth n.root ≤ depth_limit) _ c.map_err.ensures.cases
+    (of_the_value c.new_root.result _ (λ n. n.number ≡ c.args.ids.now × n.path ≡ [] × depth n.root ≤ depth_limit) c.new_root.ensures.ok (refl, refl, c.in_ok-root.ensures.limited))
+
+pub returns-clause-found : goal.returns-clause-found
+returns-clause-found c =
+    kept_by_map_err c.new_root.result c.map_err.result (λ n. IsExpression (name_in []) is_gap_blank n.root c.args.expression.now) _ c.map_err.ensures.cases
+    (of_the_value c.new_root.result _ (λ n. IsExpression (name_in []) is_gap_blank n.root c.args.expression.now) c.new_root.ensures.ok c.in_ok-root.ensures.found)
+
+pub returns-clause-only : goal.returns-clause-only
+returns-clause-only c = λ t expression.
+    kept_by_map_err c.new_root.result c.map_err.result (λ n. n.root ≡ t) _ c.map_err.ensures.cases
+    (of_the_value c.new_root.result _ (λ n. n.root ≡ t) c.new_root.ensures.ok (c.in_ok-root.ensures.only t expression))
+
+pub returns-clause-drawn : goal.returns-clause-drawn
+returns-clause-drawn c =
+    kept_by_map_err c.new_root.result c.map_err.result (λ _. c.new_root.new.ids ≡ c.args.ids.now + 1) _ c.map_err.ensures.cases c.new_root.ensures.drawn
+
+pub returns-clause-err : goal.returns-clause-err
+returns-clause-err c =
+    let stays = c.new_root.new.ids ≡ c.args.ids.now in
+    exchanged c.new_root.result c.map_err.result _ (λ _. stays) c.map_err.ensures.cases (λ e is f q. subst (λ r. OnErr r stays) is c.new_root.ensures.err)

@@ -12,4 +12,4 @@ returns-in_default-clause-ok c = read-nothing (reading c.args.self.now) c.requir
 pub returns-clause-ok : goal.returns-clause-ok
 returns-clause-ok c =
     let r = reading c.args.self.now in
-    subst (λ x. ReadsUpTo r c.args.text.now c.in-Some.left.now x) (sym c.in_ok-push_to_word.ensures.ok) (read-run r c.requires c.args.text.now c.in-Some.taken.now c.in-Some.left.now c.run_length-count.result c.run_length-count.ensures c.in-Some.ensures.front c.in-Some.ensures.back)
+    subst (λ w. ReadsUpTo r c.args.text.now c.in-Some.left.now (record r { word = w })) (sym c.in_ok-push_str.ensures.bytes) (read-run r c.requires c.args.text.now c.in-Some.taken.now c.in-Some.left.now c.run_length-count.result c.run_length-count.ensures c.in-Some.ensures.front c.in-Some.ensures.back)

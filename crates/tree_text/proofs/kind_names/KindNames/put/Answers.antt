@@ -1,0 +1,33 @@
+use Rattle.std.proofs.Common.{◌≡◌, ◌≢◌, ℕ, List, [], ◌∷◌, ◌++◌, true, Some, is_ok, if◌then◌else◌, sym, ◌∙◌, ap, subst, string_bytes}
+use Rattle.std.specs.HashMap.{get_by_text}
+use Rattle.std.specs.Map.{update}
+use Rattle.std.specs.Str.{bytes_eq}
+use Rattle.std.proofs.lemmas.Map.Text.{hash_map_updates_text}
+use Rattle.tree_text.specs.KindNames.{name_in, is_name}
+use Rattle.tree_text.specs.declared.kind_names.GivenName.{GivenName}
+use Rattle.tree_text.specs.inner.NamedKinds.{AreKept}
+use Rattle.tree_text.proofs.Names.{entries}
+use Rattle.tree_text.proofs.KeptNames.{kept_after, kept_unchanged}
+use Rattle.tree_text.proofs.kind_names.KindNames.put.Goals as goal
+
+pub invariant_of-self-2 : goal.invariant_of-self-2
+invariant_of-self-2 c =
+    let old = c.self.inside.kinds in
+    let new = c.insert.new.self in
+    let gs = c.self.inside.given.items in
+    let given : GivenName = record { kind = c.args.kind; name = c.in_ok-name.name } in
+    let text = c.in_ok-name.ensures.ok in
+    let spelled : is_name (string_bytes c.in_ok-name.name) ≡ true = rw text c.requires.spelled in
+    let free : (k : ℕ) → name_in c.args.self.now k ≢ Some (string_bytes c.in_ok-name.name) = rw text c.requires.free in
+    let put = hash_map_updates_text (string_bytes c.in_ok-key.key) old new (Some c.args.kind) c.in_ok-insert.ensures.updates in
+    let pushed : c.push.new.self.items ≡ gs ++ given ∷ [] = subst (λ r. c.push.new.self.items ≡ (if is_ok r then c.reserve.new.self.items ++ given ∷ [] else c.reserve.new.self.items)) c.unwrap.ensures c.push.ensures.items ∙ ap (λ l. l ++ given ∷ []) c.reserve.ensures.items in
+    kept_after old new gs c.push.new.self.items given c.self.invariant (rw c.self.view_is c.requires.unnamed) spelled (rw c.self.view_is free) pushed
+    (subst (λ b. (q : List ℕ) → get_by_text new q ≡ update bytes_eq (get_by_text old) b (Some c.args.kind) q) (c.in_ok-key.ensures.ok ∙ sym text) put)
+
+pub invariant_of-self : goal.invariant_of-self
+invariant_of-self c = subst (λ gs. AreKept c.self.inside.kinds (entries gs)) (sym c.reserve.ensures.items) c.self.invariant
+
+pub invariant_of-self-in_err-insert : goal.invariant_of-self-in_err-insert
+invariant_of-self-in_err-insert c =
+    let kept : AreKept c.self.inside.kinds (entries c.reserve.new.self.items) = subst (λ gs. AreKept c.self.inside.kinds (entries gs)) (sym c.reserve.ensures.items) c.self.invariant in
+    kept_unchanged c.self.inside.kinds c.insert.new.self (entries c.reserve.new.self.items) kept c.in_err-insert.ensures.err
