@@ -40,8 +40,7 @@ pub(crate) fn rewritten_element(
 {
     let old = element.green(alloc)?;
     let sought = sought_at(alloc, registered, element)?;
-    let new = rewrite_element(alloc, walk, &old, aims, &sought, given)?;
-    Ok(new)
+    rewrite_element(alloc, walk, &old, aims, &sought, given)
 }
 
 // What a change gives, where what it owns has been entered: each element of its payload, rewritten, with its marks.

@@ -1,9 +1,13 @@
 //! The new tree of an element, and the nodes that are made anew for it, each inside the one before it.
 
-ghost use Rattle.std.specs.Prelude.{◌≡◌, ◌≤◌, ◌<◌, ◌+◌, ◌∷◌, [], ◌++◌, suc, length, IfOk, OnOk, MatchOption};
+ghost use Rattle.std.specs.Prelude.{◌≡◌, ◌≤◌, ◌<◌, ◌+◌, ◌∷◌, [], ◌++◌, true, suc, length, IfNone, IfSome, IfOk, OnOk, MatchOption};
+ghost use Rattle.std.specs.List.{list_any};
 ghost use Rattle.green_tree.specs.Tree.{node};
+ghost use Rattle.green_tree.specs.Green.{branch_tree};
 ghost use Rattle.green_tree.specs.GreenElement.{element_tree, element_trees};
 ghost use Rattle.green_tree.specs.Count.{counted};
+ghost use Rattle.edit_change.specs.inner.Aimed.{aims_of, has_parent};
+ghost use Rattle.one_pass.specs.inner.Built.{nodes_built};
 ghost use Rattle.one_pass.specs.inner.Marked.{mark_seen, marks_seen, InPathOrder};
 ghost use Rattle.one_pass.specs.inner.Pass.{TouchesAtMost, CountsBuilt, CountsTouched};
 ghost use Rattle.one_pass.specs.inner.Pass.{green_rewritten, FindsRewritten};
@@ -145,37 +149,32 @@ fn take_aim<'e>(
     let [aim, rest @ ..] = top.aims else {
         unreachable!()
     };
-    match site_of(aim, top.depth, top.elements.len()) {
-        Site::Gap(gap) => {
-            share_until(alloc, walk, top, gap)?;
-            top.aims = rest;
-            push_change(alloc, walk, &mut top.out, given, aim.change)?;
-            Ok(None)
-        }
-        Site::Slots(first, count) => {
-            share_until(alloc, walk, top, first)?;
-            top.aims = rest;
-            push_change(alloc, walk, &mut top.out, given, aim.change)?;
-            top.passed = top.passed.max(first.saturating_add(count));
-            Ok(None)
-        }
-        Site::Below(slot) => {
-            share_until(alloc, walk, top, slot)?;
-            // A node that stays is opened; a token has no inside, and neither has what is replaced.
-            if slot >= top.passed {
-                let elements = top.elements;
-                if let GreenElement::Node(node) = &elements[slot] {
-                    return Ok(Some(node));
-                }
-            }
-            top.aims = rest;
-            Ok(None)
-        }
+    // Where it stands, and before which slot children are replaced then; nothing is put inside a child.
+    let (slot, passed) = match site_of(aim, top.depth, top.elements.len()) {
+        Site::Gap(gap) => (gap, Some(top.passed)),
+        Site::Slots(first, count) => (first, Some(top.passed.max(first.saturating_add(count)))),
+        Site::Below(slot) => (slot, None),
         Site::Nowhere => {
             top.aims = rest;
-            Ok(None)
+            return Ok(None);
         }
-    }
+    };
+    share_until(alloc, walk, top, slot)?;
+    let Some(passed) = passed else {
+        // A node that stays is opened; a token has no inside, and neither has what is replaced.
+        if slot >= top.passed {
+            let elements = top.elements;
+            if let GreenElement::Node(node) = &elements[slot] {
+                return Ok(Some(node));
+            }
+        }
+        top.aims = rest;
+        return Ok(None);
+    };
+    top.aims = rest;
+    push_change(alloc, walk, &mut top.out, given, aim.change)?;
+    top.passed = passed;
+    Ok(None)
 }
 
 // What is due to aims is put, up to the next child that has to be made anew, or to the end if there is none.
@@ -268,6 +267,21 @@ pub fn rewrite_open(
     }
 }
 
+// The node that has to be made anew: the element, if an aim is inside it. Where there is none, nothing is built.
+fn node_to_make<'e>(element: &'e GreenElement, aims: &[Aimed]) -> Option<&'e GreenNode>
+    ensures none { IfNone result (nodes_built (aims_of aims.now) (element_tree element.now) ≡ 0) }
+    ensures tree { IfSome result (λ n. branch_tree n.now ≡ element_tree element.now) }
+    ensures aimed { IfSome result (λ n. list_any has_parent (aims_of aims.now) ≡ true) }
+{
+    let GreenElement::Node(node) = element else {
+        return None;
+    };
+    if !aims.iter().any(Aimed::has_parent) {
+        return None;
+    }
+    Some(node)
+}
+
 /// The element made anew by changes whose aims are counted from it: `given` has what each change gives, by its number.
 /// The marks of the new element go to the end of those that the walk has found, in document order, with paths that
 /// begin with the walk's: `sought` has those of the old element, in document order too.
@@ -294,17 +308,13 @@ pub fn rewrite_element(
 {
     // For the proof: the count at the start.
     let _count = walk.builds;
-    if !aims.iter().any(|aim| aim.has_parent()) {
-        push_kept(alloc, &mut walk.found, &walk.path, element, 0, sought)?;
-        return element.share(alloc);
-    }
-    let GreenElement::Node(node) = element else {
+    let Some(node) = node_to_make(element, aims) else {
         push_kept(alloc, &mut walk.found, &walk.path, element, 0, sought)?;
         return element.share(alloc);
     };
     // In document order; those at one site stay in theirs.
     let mut sorted = Vec::from_slice(alloc, aims)?;
-    sorted.sort_by(|one: &Aimed<'_>, two: &Aimed<'_>| one.compare_sites(two))?;
+    sorted.sort_by(Aimed::compare_sites)?;
     let top = open_node(alloc, walk, node, 0, &sorted, sought)?;
     rewrite_open(alloc, walk, top, given)
 }

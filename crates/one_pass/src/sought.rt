@@ -56,7 +56,7 @@ pub fn in_document_order<'a>(
     for number in 0..elements.len() {
         registered.push(Registered::of(&elements[number], number))?;
     }
-    registered.sort_by(|one: &Registered<'_>, two: &Registered<'_>| one.compare(two))?;
+    registered.sort_by(Registered::compare)?;
     Ok(registered)
 }
 

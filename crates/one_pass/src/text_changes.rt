@@ -28,20 +28,14 @@ use std::alloc::{AllocError, Global};
 use text_edit::TextEdit;
 
 // The text of the element that a path of the whole tree leads to; nothing where it leads nowhere.
-fn push_text_at(
-    alloc: Global,
-    out: &mut String,
-    root: &SyntaxNode,
-    path: Vec<usize>,
-) -> Result<(), AllocError>
-    ensures { OnOk result
-        (string_bytes out.new ≡ string_bytes out.old ++ text (subtree (element_at root.now path.items))) }
+fn text_at_path(alloc: Global, root: &SyntaxNode, path: Vec<usize>) -> Result<String, AllocError>
+    ensures { IfOk result
+        (λ s. string_bytes s ≡ text (subtree (element_at root.now path.items))) }
 {
-    if let Some(element) = root.element_of_tree(alloc, path)? {
-        let text = element.text(alloc)?;
-        out.push_str(&text)?;
-    }
-    Ok(())
+    let Some(element) = root.element_of_tree(alloc, path)? else {
+        return Ok(String::new(alloc));
+    };
+    element.text(alloc)
 }
 
 // The text of the element at the path of this one.
@@ -49,14 +43,8 @@ fn text_at(alloc: Global, root: &SyntaxNode, target: &SyntaxElement) -> Result<S
     ensures { IfOk result
         (λ s. string_bytes s ≡ text (subtree (element_at root.now (element_of target.now).path))) }
 {
-    let mut out = String::new(alloc);
-    push_text_at(
-        alloc,
-        &mut out,
-        root,
-        Vec::from_slice(alloc, target.slots())?,
-    )?;
-    Ok(out)
+    let path = Vec::from_slice(alloc, target.slots())?;
+    text_at_path(alloc, root, path)
 }
 
 fn parent(path: &[usize]) -> &[usize]
@@ -90,7 +78,8 @@ fn range_text(
 {
     let mut out = String::new(alloc);
     for slot in first.index()..slot_after(last) {
-        push_text_at(alloc, &mut out, root, sibling(alloc, first.slots(), slot)?)?;
+        let text = text_at_path(alloc, root, sibling(alloc, first.slots(), slot)?)?;
+        out.push_str(&text)?;
     }
     Ok(out)
 }
@@ -190,46 +179,41 @@ fn numbered_table(
     Ok(GivenTable { entries, top: None })
 }
 
-fn numbers_of(alloc: Global, marks: &[Mark]) -> Result<Vec<usize>, AllocError>
-    ensures { IfOk result (λ v. v.items ≡ map (λ m. m.number) marks.now) }
-{
-    marks.iter().map(|mark| mark.number).collect(alloc)
-}
-
-// The changes of these aims, from left to right, of which this one replaces the root.
+// A mark for each change of these aims, from left to right, with the change's number; this change replaces the root.
 fn in_text_order(
     alloc: Global,
     root: &SyntaxNode,
     changes: &[Change],
     aims: &[Aimed],
     replacement: Option<usize>,
-) -> Result<Vec<usize>, AllocError>
+) -> Result<Vec<Mark>, AllocError>
     requires alone { IsAlone (aims_of aims.now) replacement }
     requires there { IfSome replacement (λ c. c < length changes.now) }
-    ensures { IfOk result (λ v. v.items ≡ in_order_of changes.now (aims_of aims.now) (subtree root.now)) }
+    ensures { IfOk result (λ v. map (λ m. m.number) v.items
+        ≡ in_order_of changes.now (aims_of aims.now) (subtree root.now)) }
 {
     let green = root.green(alloc)?;
     let table = numbered_table(alloc, &green, changes)?;
     let mut walk = Walk::begin(alloc, 0);
     rewritten_root(alloc, &mut walk, root, replacement, aims, &[], &table)?;
-    numbers_of(alloc, &walk.found)
+    Ok(walk.found)
 }
 
-// What changes do to the text, in this order.
+// What changes do to the text, in the order of these marks, which have their numbers.
 fn edits_in_order(
     alloc: Global,
     root: &SyntaxNode,
     changes: &[Change],
     given: &GivenTable,
-    order: &[usize],
+    marks: &[Mark],
 ) -> Result<Vec<TextEdit>, AllocError>
     requires { All (Fits root.now) changes.now }
     ensures { IfOk result (λ v. map as_piece v.items
-        ≡ flat_map (pieces_by root.now changes.now given.now) order.now) }
+        ≡ flat_map (pieces_by root.now changes.now given.now) (map (λ m. m.number) marks.now)) }
 {
     let mut edits = Vec::new(alloc);
-    for number in order {
-        push_edit(alloc, &mut edits, root, changes, given, *number)?;
+    for mark in marks {
+        push_edit(alloc, &mut edits, root, changes, given, mark.number)?;
     }
     Ok(edits)
 }
@@ -255,6 +239,6 @@ pub fn text_edits(alloc: Global, planned: Planned<'_>) -> Result<Vec<TextEdit>, 
     let mut builds = 0;
     let given = given_table(alloc, changes, order, &owned, &[], &mut builds)?;
     let replacement = root_replacement(root, changes, &free);
-    let numbers = in_text_order(alloc, root, changes, &free, replacement)?;
-    edits_in_order(alloc, root, changes, &given, &numbers)
+    let marks = in_text_order(alloc, root, changes, &free, replacement)?;
+    edits_in_order(alloc, root, changes, &given, &marks)
 }

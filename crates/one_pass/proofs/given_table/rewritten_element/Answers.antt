@@ -10,25 +10,32 @@ use Rattle.one_pass.specs.inner.Marked.{marks_seen, InPathOrder, marked, mark_be
 use Rattle.edit_change.specs.inner.KindOnly.{kind_only}
 use Rattle.one_pass.specs.inner.Pass.{given_in}
 use Rattle.edit_change.specs.TouchedNodes.{Raises}
+use Rattle.edit_change.proofs.AlteredNodes.{on_ok-map, if_ok-map}
+use Rattle.one_pass.proofs.Counted.{counts-at_most}
+use Rattle.one_pass.proofs.TouchedNodes.{counts-touched}
 use Rattle.one_pass.proofs.Counting.{raises-built}
 use Rattle.one_pass.proofs.Registered.{sought-order}
 use Rattle.one_pass.proofs.given_table.rewritten_element.Goals as goal
 
 pub returns-clause-tree : goal.returns-clause-tree
-returns-clause-tree c = c.in_ok-new.ensures.tree ∙ ap (rewritten kind_only (given_in c.args.given.now) (aims_of c.args.aims.now) []) c.in_ok-old.ensures
+returns-clause-tree c =
+    if_ok-map _ _ c.rewrite_element.result (λ e is. is ∙ ap (rewritten kind_only (given_in c.args.given.now) (aims_of c.args.aims.now) []) c.in_ok-old.ensures) c.rewrite_element.ensures.tree
 
 pub returns-clause-marks : goal.returns-clause-marks
-returns-clause-marks c = λ trees are.
+returns-clause-marks c =
+    on_ok-map c.rewrite_element.result (λ finds trees are.
     let same = ap₂ (λ ms t. marked (rewritten (wanted ms) trees (aims_of c.args.aims.now) [] t)) (ap (marks_seen 0) c.deref.ensures.value ∙ c.in_ok-sought.ensures) c.in_ok-old.ensures in
-    c.in_ok-new.ensures.marks trees are ∙ ap (λ ms. marks_of c.args.walk.now.found.items ++ map (mark_below c.args.walk.now.path.items) ms) same
+    finds trees are ∙ ap (λ ms. marks_of c.args.walk.now.found.items ++ map (mark_below c.args.walk.now.path.items) ms) same) c.rewrite_element.ensures.marks
 
 pub returns-clause-count : goal.returns-clause-count
 returns-clause-count c =
-    let aims = aims_of c.args.aims.now in
+    let xs = c.args.aims.now in
+    let aims = aims_of xs in
     let before = c.args.walk.now.builds in
     let after = c.rewrite_element.new.walk.builds in
-    let own = element_tree c.in_ok-old.old in
-    subst (λ t. Raises (AreBuilt aims t) (touched t (parents_of aims)) before after) c.in_ok-old.ensures (raises-built (AreBuilt aims own) (touched own (parents_of aims)) (nodes_built aims own) before after c.in_ok-new.ensures.builds c.in_ok-new.ensures.count c.in_ok-new.ensures.whole)
+    let old = c.in_ok-old.old in
+    let own = element_tree old in
+    on_ok-map c.rewrite_element.result (λ h. subst (λ t. Raises (AreBuilt aims t) (touched t (parents_of aims)) before after) c.in_ok-old.ensures (raises-built (AreBuilt aims own) (touched own (parents_of aims)) (nodes_built aims own) before after (counts-at_most xs old before after h) h (counts-touched xs old before after h))) c.rewrite_element.ensures.count
 
 pub rewrite_element-requires : goal.rewrite_element-requires
 rewrite_element-requires c =

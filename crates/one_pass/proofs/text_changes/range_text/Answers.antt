@@ -22,7 +22,8 @@ loop-slot-preserved c =
     let before = string_bytes c.loop-slot.out in
     let rest = flat_map own (counted_from (i + 1) (n - (i + 1))) in
     let path = c.in_ok-sibling.ensures ∙ ap (λ p. parent_path p ++ i ∷ []) c.slots.ensures in
-    let piece : string_bytes c.push_text_at.new.out ≡ before ++ own i = c.in_ok-push_text_at.ensures ∙ ap (λ p. before ++ text (subtree (element_at root p))) path in
+    let told = c.in_ok-text.ensures ∙ ap (λ p. text (subtree (element_at root p))) path in
+    let piece : string_bytes c.push_str.new.self ≡ before ++ own i = c.in_ok-push_str.ensures.bytes ∙ ap (λ s. before ++ s) (c.deref.ensures ∙ told) in
     ap (λ s. s ++ rest) piece ∙ append_assoc before (own i) rest ∙ ap (λ s. before ++ s) (sym (range-next own i n c.loop-slot-test.true)) ∙ c.loop-slot.invariant
 
 pub returns : goal.returns
