@@ -6,3 +6,6 @@ pub mod LinesCarried
 pub mod Ending
 pub mod KindsNamed
 pub mod NothingShown
+pub mod Recording
+pub mod Pairing
+pub mod ManyElements

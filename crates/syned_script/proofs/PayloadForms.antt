@@ -1,6 +1,7 @@
 -- Which call a line has, by the number of new elements.
-use Rattle.std.proofs.Common.{◌≡◌, ◌≢◌, ◌<◌, List, [], ◌∷◌, length, map, get_or, option_and_then, refl, sym, ap, arith}
-use Rattle.syntax_editor.specs.RecordCall.{Inserting, InsertingAll, Replacing, ReplacingWithMany, ReplacingAll}
+use Rattle.std.proofs.Common.{◌≡◌, ◌≢◌, true, false, List, [], ◌∷◌, length, map, get_or, option_and_then, refl, sym, ap, arith}
+use Rattle.std.specs.Bool.{◌==◌}
+use Rattle.syntax_editor.specs.RecordCall.{Inserting, InsertingAll, Replacing, ReplacingWithMany, DeletingAll, ReplacingAll}
 use Rattle.script_lines.specs.ScriptLine.{Ref, Gap, Insert, Replace, Range}
 use Rattle.script_lines.specs.LineValue.{ref_of}
 use Rattle.script_lines.specs.declared.reference.Reference.{Reference}
@@ -33,6 +34,10 @@ replaces-with-many roots target [] h = refl
 replaces-with-many roots target (x ∷ []) h = absurd (h refl)
 replaces-with-many roots target (x ∷ y ∷ more) h = refl
 
-pub replaces-all : (roots : Roots) (first last : Ref) (rs : List Reference) → 0 < length rs → call_in roots (Range first last (map ref_of rs)) ≡ option_and_then (λ e. of_both (ReplacingAll e) (element_in roots last) (elements_in roots (map ref_of rs))) (element_in roots first)
-replaces-all roots first last [] h = absurd (omega (arith, h))
+pub deletes-all : (roots : Roots) (first last : Ref) (rs : List Reference) → true ≡ (length rs == 0) → call_in roots (Range first last (map ref_of rs)) ≡ of_both DeletingAll (element_in roots first) (element_in roots last)
+deletes-all roots first last [] h = refl
+deletes-all roots first last (x ∷ more) h = absurd (grind (arith, h))
+
+pub replaces-all : (roots : Roots) (first last : Ref) (rs : List Reference) → false ≡ (length rs == 0) → call_in roots (Range first last (map ref_of rs)) ≡ option_and_then (λ e. of_both (ReplacingAll e) (element_in roots last) (elements_in roots (map ref_of rs))) (element_in roots first)
+replaces-all roots first last [] h = absurd (grind (arith, h))
 replaces-all roots first last (x ∷ more) h = refl

@@ -1,36 +1,64 @@
 //! The calls of an editor that lines make to record a change.
 ghost use Rattle.std.specs.Prelude.{map, option_and_then};
-ghost use Rattle.script_lines.specs.LineValue.{ref_of, gap_of};
-ghost use Rattle.script_lines.specs.ScriptLine.{Insert, Delete, Replace, Range, Remove};
+ghost use Rattle.script_lines.specs.LineValue.{ref_of, gap_of, line_of};
+ghost use Rattle.script_lines.specs.ScriptLine.{Delete, Remove};
 ghost use Rattle.syntax_editor.specs.RecordCall.{Inserting, InsertingAll, Replacing, ReplacingWithMany};
 ghost use Rattle.syntax_editor.specs.RecordCall.{DeletingAll, ReplacingAll};
 ghost use Rattle.syned_script.specs.State.{element_in, elements_in, position_in, of_both, call_in};
 ghost use Rattle.syned_script.specs.inner.Stops.{RecordGives};
 ghost use Rattle.syned_script.specs.inner.SessionState.{roots_of};
 
+use crate::fault::Reason;
 use crate::roots::Roots;
 use crate::stop::Stop;
 use cst_core::SyntaxKind;
 use list_removal::remove_separated;
-use script_lines::{Reference, WrittenPosition};
+use script_lines::{Line, Reference, WrittenPosition};
 use std::alloc::Global;
 use syntax_editor::SyntaxEditor;
 
-/// Inserts elements; one element has a call of its own.
-pub(crate) fn insert(
+/// Makes the call of a line that has one. One new element has a call of its own, and so has a range without any.
+pub(crate) fn record(
     alloc: Global,
     roots: &Roots,
     editor: &mut SyntaxEditor,
-    at: &WrittenPosition<'_>,
-    payload: &[Reference<'_>],
+    line: &Line<'_>,
 ) -> Result<(), Stop>
-    ensures { RecordGives
-        (call_in (roots_of roots.now) (Insert (gap_of at.now) (map ref_of payload.now))) editor.old result editor.new }
+    ensures { RecordGives (call_in (roots_of roots.now) (line_of line.now)) editor.old result editor.new }
 {
-    if payload.len() == 1 {
-        insert_one(alloc, roots, editor, at, &payload[0])
-    } else {
-        insert_all(alloc, roots, editor, at, payload)
+    match line {
+        Line::Insert { at, payload } => {
+            let payload = payload.as_slice();
+            if payload.len() == 1 {
+                insert_one(alloc, roots, editor, at, &payload[0])
+            } else {
+                insert_all(alloc, roots, editor, at, payload)
+            }
+        }
+        Line::Delete { target } => delete(alloc, roots, editor, target),
+        Line::Replace { target, payload } => {
+            let payload = payload.as_slice();
+            if payload.len() == 1 {
+                replace_by_one(alloc, roots, editor, target, &payload[0])
+            } else {
+                replace_with_many(alloc, roots, editor, target, payload)
+            }
+        }
+        Line::Range {
+            first,
+            last,
+            payload,
+        } => {
+            let payload = payload.as_slice();
+            if payload.is_empty() {
+                delete_all(alloc, roots, editor, first, last)
+            } else {
+                replace_all(alloc, roots, editor, first, last, payload)
+            }
+        }
+        Line::Remove { element, separator } => remove(alloc, roots, editor, element, *separator),
+        // The other lines have no call.
+        _ => Err(Stop::bad(0, Reason::NoEdit)),
     }
 }
 
@@ -48,7 +76,7 @@ fn insert_one(
 {
     let at = roots.position(alloc, at)?;
     let element = roots.element(alloc, payload)?;
-    Ok(editor.insert(alloc, at, element)?)
+    editor.insert(alloc, at, element).map_err(Stop::from)
 }
 
 fn insert_all(
@@ -65,11 +93,11 @@ fn insert_all(
 {
     let at = roots.position(alloc, at)?;
     let elements = roots.elements(alloc, payload)?;
-    Ok(editor.insert_all(alloc, at, elements)?)
+    editor.insert_all(alloc, at, elements).map_err(Stop::from)
 }
 
-/// Deletes an element.
-pub(crate) fn delete(
+// Deletes an element.
+fn delete(
     alloc: Global,
     roots: &Roots,
     editor: &mut SyntaxEditor,
@@ -78,26 +106,7 @@ pub(crate) fn delete(
     ensures { RecordGives (call_in (roots_of roots.now) (Delete (ref_of target.now))) editor.old result editor.new }
 {
     let target = roots.element(alloc, target)?;
-    Ok(editor.delete(alloc, target)?)
-}
-
-/// Replaces an element; one new element has a call of its own.
-pub(crate) fn replace(
-    alloc: Global,
-    roots: &Roots,
-    editor: &mut SyntaxEditor,
-    target: &Reference<'_>,
-    payload: &[Reference<'_>],
-) -> Result<(), Stop>
-    ensures { RecordGives
-        (call_in (roots_of roots.now) (Replace (ref_of target.now) (map ref_of payload.now)))
-        editor.old result editor.new }
-{
-    if payload.len() == 1 {
-        replace_by_one(alloc, roots, editor, target, &payload[0])
-    } else {
-        replace_with_many(alloc, roots, editor, target, payload)
-    }
+    editor.delete(alloc, target).map_err(Stop::from)
 }
 
 fn replace_by_one(
@@ -114,7 +123,7 @@ fn replace_by_one(
 {
     let target = roots.element(alloc, target)?;
     let element = roots.element(alloc, payload)?;
-    Ok(editor.replace(alloc, target, element)?)
+    editor.replace(alloc, target, element).map_err(Stop::from)
 }
 
 fn replace_with_many(
@@ -131,27 +140,9 @@ fn replace_with_many(
 {
     let elements = roots.elements(alloc, payload)?;
     let target = roots.element(alloc, target)?;
-    Ok(editor.replace_with_many(alloc, target, elements)?)
-}
-
-/// Replaces the siblings from the first to the last one; without new elements they are deleted.
-pub(crate) fn range(
-    alloc: Global,
-    roots: &Roots,
-    editor: &mut SyntaxEditor,
-    first: &Reference<'_>,
-    last: &Reference<'_>,
-    payload: &[Reference<'_>],
-) -> Result<(), Stop>
-    ensures { RecordGives
-        (call_in (roots_of roots.now) (Range (ref_of first.now) (ref_of last.now) (map ref_of payload.now)))
-        editor.old result editor.new }
-{
-    if payload.is_empty() {
-        delete_all(alloc, roots, editor, first, last)
-    } else {
-        replace_all(alloc, roots, editor, first, last, payload)
-    }
+    editor
+        .replace_with_many(alloc, target, elements)
+        .map_err(Stop::from)
 }
 
 fn delete_all(
@@ -168,7 +159,7 @@ fn delete_all(
 {
     let first = roots.element(alloc, first)?;
     let last = roots.element(alloc, last)?;
-    Ok(editor.delete_all(alloc, first, last)?)
+    editor.delete_all(alloc, first, last).map_err(Stop::from)
 }
 
 fn replace_all(
@@ -188,11 +179,13 @@ fn replace_all(
     let elements = roots.elements(alloc, payload)?;
     let first = roots.element(alloc, first)?;
     let last = roots.element(alloc, last)?;
-    Ok(editor.replace_all(alloc, first, last, elements)?)
+    editor
+        .replace_all(alloc, first, last, elements)
+        .map_err(Stop::from)
 }
 
-/// Removes an element of a separated list.
-pub(crate) fn remove(
+// Removes an element of a separated list.
+fn remove(
     alloc: Global,
     roots: &Roots,
     editor: &mut SyntaxEditor,
@@ -203,5 +196,5 @@ pub(crate) fn remove(
         (call_in (roots_of roots.now) (Remove (ref_of element.now) separator)) editor.old result editor.new }
 {
     let element = roots.element(alloc, element)?;
-    Ok(remove_separated(alloc, editor, &element, separator)?)
+    remove_separated(alloc, editor, &element, separator).map_err(Stop::from)
 }

@@ -146,13 +146,16 @@ fn record(alloc: Global, session: &mut Session, lines: &[&str]) -> Result<usize,
 pub(crate) fn carry_out_line(alloc: Global, session: &mut Session, text: &str) -> Result<bool, Stop>
     ensures { TextGives (state_of session.old) text.now result (state_of session.new) }
 {
-    match read_line(alloc, &session.language, text)? {
-        Line::Finish => Ok(true),
-        line => {
-            session.carry_out(line)?;
-            Ok(false)
-        }
-    }
+    let line = read_line(alloc, &session.language, text)?;
+    let is_finish = matches!(line, Line::Finish);
+    let carried_out = if is_finish {
+        Ok(())
+    } else {
+        session.carry_out(&line)
+    };
+    // Whatever the line is, all that it holds goes here.
+    drop(line);
+    carried_out.and(Ok(is_finish))
 }
 
 // `finish`, which is the line of this number, wants an editor. Only blank lines may follow.
@@ -268,7 +271,9 @@ fn run(
     ensures stops { IfErr result (StopsFor ⊥ (RunStops plan.now (option_map (λ v. v.items) order) ids.old)) }
 {
     match order {
-        None => Ok(plan.run_with(alloc, ids, &mut OnePassEngine::new(alloc))?),
-        Some(order) => Ok(plan.execute(alloc, ids, &order)?),
+        None => plan
+            .run_with(alloc, ids, &mut OnePassEngine::new(alloc))
+            .map_err(Stop::from),
+        Some(order) => plan.execute(alloc, ids, &order).map_err(Stop::from),
     }
 }

@@ -1,7 +1,5 @@
 //! Why a line of a script is bad.
 
-ghost use Rattle.std.specs.Prelude.{◌≡◌};
-
 use script_lines::Flaw;
 use std::fmt;
 
@@ -66,12 +64,4 @@ pub struct Fault {
     pub at: usize,
     /// What is wrong there.
     pub reason: Reason,
-}
-
-impl Fault {
-    pub(crate) fn new(at: usize, reason: Reason) -> Fault
-        ensures { result ≡ record { at = at; reason = reason } }
-    {
-        Fault { at, reason }
-    }
 }

@@ -25,7 +25,7 @@ pub(crate) fn map_pair(
         (node_in (roots_of roots.now) (ref_of output.now)) editor.old result editor.new }
 {
     let pair = pair_of(alloc, roots, parent, input, output)?;
-    Ok(editor.add_mapping(alloc, pair)?)
+    editor.add_mapping(alloc, pair).map_err(Stop::from)
 }
 
 // The pair of a node and its copy below a parent.
@@ -62,5 +62,5 @@ fn map_node(
 {
     let input = roots.node(alloc, input)?;
     let output = roots.node(alloc, output)?;
-    Ok(builder.map_node(alloc, input, output)?)
+    builder.map_node(alloc, input, output).map_err(Stop::from)
 }

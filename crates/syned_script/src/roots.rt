@@ -2,7 +2,6 @@
 ghost use Rattle.std.specs.Prelude.{◌≡◌, ℕ, List, map, option_map, is_some, IfOk, IfErr, OnOk};
 ghost use Rattle.syned_script.specs.State.{with_root, element_in, elements_in, node_in, position_in};
 ghost use Rattle.script_lines.specs.LineValue.{ref_of, gap_of};
-ghost use Rattle.script_lines.specs.ScriptLine.{First, Last, Before, After};
 ghost use Rattle.syned_script.specs.inner.Stops.{NotThere};
 ghost use Rattle.syned_script.specs.inner.SessionState.{roots_of};
 ghost use Rattle.syned_script.specs.declared.stop.Stop.TheVariants.{Memory};
@@ -105,45 +104,25 @@ impl Roots {
         ensures not_there { IfErr result (NotThere (position_in (roots_of self.now) (gap_of at.now))) }
     {
         match at {
-            WrittenPosition::First(node) => self.first_in(alloc, node),
-            WrittenPosition::Last(node) => self.last_in(alloc, node),
-            WrittenPosition::Before(element) => self.before(alloc, element),
-            WrittenPosition::After(element) => self.after(alloc, element),
+            WrittenPosition::First(node) => {
+                let node = self.node(alloc, node)?;
+                Position::first_child_of(alloc, &node).map_err(Stop::from)
+            }
+            WrittenPosition::Last(node) => {
+                let node = self.node(alloc, node)?;
+                Position::last_child_of(alloc, &node).map_err(Stop::from)
+            }
+            WrittenPosition::Before(element) => {
+                let at = element.name.at();
+                let element = self.element(alloc, element)?;
+                gap(at, Position::before(alloc, element)?)
+            }
+            WrittenPosition::After(element) => {
+                let at = element.name.at();
+                let element = self.element(alloc, element)?;
+                gap(at, Position::after(alloc, element)?)
+            }
         }
-    }
-
-    fn first_in(&self, alloc: Global, node: &Reference<'_>) -> Result<Position, Stop>
-        ensures found { IfOk result (λ p. position_in (roots_of self.now) (First (ref_of node.now)) ≡ Some p) }
-        ensures not_there { IfErr result (NotThere (position_in (roots_of self.now) (First (ref_of node.now)))) }
-    {
-        let node = self.node(alloc, node)?;
-        Ok(Position::first_child_of(alloc, &node)?)
-    }
-
-    fn last_in(&self, alloc: Global, node: &Reference<'_>) -> Result<Position, Stop>
-        ensures found { IfOk result (λ p. position_in (roots_of self.now) (Last (ref_of node.now)) ≡ Some p) }
-        ensures not_there { IfErr result (NotThere (position_in (roots_of self.now) (Last (ref_of node.now)))) }
-    {
-        let node = self.node(alloc, node)?;
-        Ok(Position::last_child_of(alloc, &node)?)
-    }
-
-    fn before(&self, alloc: Global, element: &Reference<'_>) -> Result<Position, Stop>
-        ensures found { IfOk result (λ p. position_in (roots_of self.now) (Before (ref_of element.now)) ≡ Some p) }
-        ensures not_there { IfErr result (NotThere (position_in (roots_of self.now) (Before (ref_of element.now)))) }
-    {
-        let at = element.name.at();
-        let element = self.element(alloc, element)?;
-        gap(at, Position::before(alloc, element)?)
-    }
-
-    fn after(&self, alloc: Global, element: &Reference<'_>) -> Result<Position, Stop>
-        ensures found { IfOk result (λ p. position_in (roots_of self.now) (After (ref_of element.now)) ≡ Some p) }
-        ensures not_there { IfErr result (NotThere (position_in (roots_of self.now) (After (ref_of element.now)))) }
-    {
-        let at = element.name.at();
-        let element = self.element(alloc, element)?;
-        gap(at, Position::after(alloc, element)?)
     }
 }
 

@@ -3,7 +3,7 @@ ghost use Rattle.std.specs.Prelude.{◌≡◌, ◌≢◌, ◌↔◌, IsTrue, tru
 ghost use Rattle.script_lines.specs.LineValue.{ref_of, refs_of, gap_of, line_of, texts_of};
 ghost use Rattle.script_lines.specs.ScriptLine as says;
 ghost use Rattle.cst_core.specs.Green.{branch_tree};
-ghost use Rattle.syned_script.specs.State.{new_state, no_details};
+ghost use Rattle.syned_script.specs.State.{new_state, no_details, recorded_in, call_in, Goes, Refuses, IsBad};
 ghost use Rattle.syned_script.specs.inner.Stops.{LineGives, StopsFor};
 ghost use Rattle.syned_script.specs.inner.SessionState.{editing_of, state_of};
 ghost use Rattle.syned_script.specs.declared.fault.Reason.TheVariants.{NoEdit};
@@ -81,40 +81,36 @@ impl Session {
     }
 
     /// Carries out a line that does not end the script.
-    pub(crate) fn carry_out(&mut self, line: Line<'_>) -> Result<(), Stop>
-        requires { line_of line ≢ says.Finish }
-        ensures { LineGives (state_of self.old) (line_of line.entry) result (state_of self.new) }
+    pub(crate) fn carry_out(&mut self, line: &Line<'_>) -> Result<(), Stop>
+        requires { line_of line.now ≢ says.Finish }
+        ensures { LineGives (state_of self.old) (line_of line.now) result (state_of self.new) }
     {
         match line {
             Line::Blank => Ok(()),
-            Line::Kinds { names } => self.name_kinds(&names),
-            Line::Tree { name, root } => self.add_tree(name, root),
-            Line::Edit { name, node } => self.edit(name, &node),
+            Line::Kinds { names } => self.name_kinds(names),
+            Line::Tree { name, root } => self.add_tree(*name, root),
+            Line::Edit { name, node } => self.edit(*name, node),
             Line::Map {
                 parent,
                 input,
                 output,
-            } => self.map(&parent, &input, &output),
-            Line::Insert { at, payload } => self.insert(&at, &payload),
-            Line::Delete { target } => self.delete(&target),
-            Line::Replace { target, payload } => self.replace(&target, &payload),
-            Line::Range {
-                first,
-                last,
-                payload,
-            } => self.range(&first, &last, &payload),
-            Line::Note { word, element } => self.note(word, &element),
-            Line::Remove { element, separator } => self.remove(&element, separator),
+            } => self.map(parent, input, output),
+            Line::Insert { .. }
+            | Line::Delete { .. }
+            | Line::Replace { .. }
+            | Line::Range { .. }
+            | Line::Remove { .. } => self.record(line),
+            Line::Note { word, element } => self.note(*word, element),
             Line::Order { order } => self.order(order),
-            Line::Show { detail } => self.show(detail),
-            Line::Spaced { at, payload } => self.insert_spaced(&at, &payload),
+            Line::Show { detail } => self.show(*detail),
+            Line::Spaced { at, payload } => self.insert_spaced(at, payload),
             Line::Wrap {
                 node,
                 kind,
                 before,
                 after,
-            } => self.wrap(&node, kind, &before, &after),
-            Line::Shifted { shift, name, node } => self.add_shifted(shift, name, &node),
+            } => self.wrap(node, *kind, before, after),
+            Line::Shifted { shift, name, node } => self.add_shifted(*shift, *name, node),
             Line::Finish => Err(Stop::bad(0, Reason::NoFinish)),
         }
     }
@@ -176,13 +172,14 @@ impl Session {
         }
     }
 
-    fn add_tree(&mut self, name: Name<'_>, root: GreenNode) -> Result<(), Stop>
-        ensures { LineGives (state_of self.old) (says.Tree name.entry.text.now (branch_tree root))
+    fn add_tree(&mut self, name: Name<'_>, root: &GreenNode) -> Result<(), Stop>
+        ensures { LineGives (state_of self.old) (says.Tree name.entry.text.now (branch_tree root.now))
             result (state_of self.new) }
     {
         if self.roots.is_taken(name) {
             return Err(Stop::bad(name.at(), Reason::NameTaken));
         }
+        let root = root.share(self.alloc)?;
         let root = SyntaxNode::new_root(self.alloc, &mut self.ids, root)?;
         self.roots.add(self.alloc, name, root)
     }
@@ -254,18 +251,17 @@ impl Session {
         }
     }
 
-    fn insert(&mut self, at: &WrittenPosition<'_>, payload: &[Reference<'_>]) -> Result<(), Stop>
-        ensures { LineGives (state_of self.old) (says.Insert (gap_of at.now) (map ref_of payload.now))
-            result (state_of self.new) }
+    // Makes the call of a line that has one.
+    fn record(&mut self, line: &Line<'_>) -> Result<(), Stop>
+        ensures recorded { OnOk result
+            (recorded_in (state_of self.old) (call_in (state_of self.old).roots (line_of line.now))
+            ≡ Goes (state_of self.new)) }
+        ensures stops { IfErr result (StopsFor
+            (recorded_in (state_of self.old) (call_in (state_of self.old).roots (line_of line.now)) ≡ IsBad)
+            (λ r. recorded_in (state_of self.old) (call_in (state_of self.old).roots (line_of line.now)) ≡ Refuses r)) }
     {
         match &mut self.editing {
-            Some(editing) => calls::insert(
-                self.alloc,
-                &self.roots,
-                &mut editing.editor,
-                at,
-                payload,
-            ),
+            Some(editing) => calls::record(self.alloc, &self.roots, &mut editing.editor, line),
             None => Err(no_edit()),
         }
     }
@@ -282,11 +278,10 @@ impl Session {
             Some(editing) => {
                 let at = self.roots.position(self.alloc, at)?;
                 let elements = self.roots.elements(self.alloc, payload)?;
-                Ok(
-                    editing
-                        .editor
-                        .insert_all_with_whitespace(self.alloc, &mut self.ids, at, elements)?,
-                )
+                editing
+                    .editor
+                    .insert_all_with_whitespace(self.alloc, &mut self.ids, at, elements)
+                    .map_err(Stop::from)
             }
             None => Err(no_edit()),
         }
@@ -317,69 +312,6 @@ impl Session {
         }
     }
 
-    fn delete(&mut self, target: &Reference<'_>) -> Result<(), Stop>
-        ensures { LineGives (state_of self.old) (says.Delete (ref_of target.now)) result (state_of self.new) }
-    {
-        match &mut self.editing {
-            Some(editing) => calls::delete(self.alloc, &self.roots, &mut editing.editor, target),
-            None => Err(no_edit()),
-        }
-    }
-
-    fn replace(&mut self, target: &Reference<'_>, payload: &[Reference<'_>]) -> Result<(), Stop>
-        ensures { LineGives (state_of self.old) (says.Replace (ref_of target.now) (map ref_of payload.now))
-            result (state_of self.new) }
-    {
-        match &mut self.editing {
-            Some(editing) => calls::replace(
-                self.alloc,
-                &self.roots,
-                &mut editing.editor,
-                target,
-                payload,
-            ),
-            None => Err(no_edit()),
-        }
-    }
-
-    fn range(
-        &mut self,
-        first: &Reference<'_>,
-        last: &Reference<'_>,
-        payload: &[Reference<'_>],
-    ) -> Result<(), Stop>
-        ensures { LineGives (state_of self.old)
-            (says.Range (ref_of first.now) (ref_of last.now) (map ref_of payload.now)) result (state_of self.new) }
-    {
-        match &mut self.editing {
-            Some(editing) => calls::range(
-                self.alloc,
-                &self.roots,
-                &mut editing.editor,
-                first,
-                last,
-                payload,
-            ),
-            None => Err(no_edit()),
-        }
-    }
-
-    fn remove(&mut self, element: &Reference<'_>, separator: SyntaxKind) -> Result<(), Stop>
-        ensures { LineGives (state_of self.old) (says.Remove (ref_of element.now) separator)
-            result (state_of self.new) }
-    {
-        match &mut self.editing {
-            Some(editing) => calls::remove(
-                self.alloc,
-                &self.roots,
-                &mut editing.editor,
-                element,
-                separator,
-            ),
-            None => Err(no_edit()),
-        }
-    }
-
     fn note(&mut self, word: Name<'_>, element: &Reference<'_>) -> Result<(), Stop>
         ensures { LineGives (state_of self.old) (says.Note word.entry.text.now (ref_of element.now))
             result (state_of self.new) }
@@ -388,21 +320,26 @@ impl Session {
             Some(editing) => {
                 let element = self.roots.element(self.alloc, element)?;
                 let annotation = self.words.annotation(self.alloc, word)?;
-                Ok(
-                    editing
-                        .editor
-                        .add_annotation(self.alloc, element, annotation)?,
-                )
+                editing
+                    .editor
+                    .add_annotation(self.alloc, element, annotation)
+                    .map_err(Stop::from)
             }
             None => Err(no_edit()),
         }
     }
 
-    fn order(&mut self, order: Vec<usize>) -> Result<(), Stop>
-        ensures { LineGives (state_of self.old) (says.Order order.items) result (state_of self.new) }
+    fn order(&mut self, order: &Vec<usize>) -> Result<(), Stop>
+        ensures { LineGives (state_of self.old) (says.Order order.now.items) result (state_of self.new) }
     {
         match &mut self.editing {
-            Some(editing) => editing.set_order(order),
+            Some(editing) => {
+                if editing.order.is_some() {
+                    return Err(Stop::bad(0, Reason::SecondOrder));
+                }
+                editing.order = Some(order.clone()?);
+                Ok(())
+            }
             None => Err(no_edit()),
         }
     }
@@ -418,20 +355,6 @@ impl Session {
             }
             None => Err(no_edit()),
         }
-    }
-}
-
-impl Editing {
-    fn set_order(&mut self, order: Vec<usize>) -> Result<(), Stop>
-        ensures set { OnOk result (self.new ≡ record self.old { order = Some order }) }
-        ensures first { OnOk result (self.old.order ≡ None) }
-        ensures second { IfErr result (StopsFor (is_some self.old.order ≡ true) (λ r. ⊥)) }
-    {
-        if self.order.is_some() {
-            return Err(Stop::bad(0, Reason::SecondOrder));
-        }
-        self.order = Some(order);
-        Ok(())
     }
 }
 

@@ -27,7 +27,7 @@ pub(crate) fn shifted(
     ensures err { OnErr result (ids.new ≡ ids.old) }
 {
     match shift {
-        Shift::Indent => Ok(indent(alloc, node, ids, ONE)?),
-        Shift::Dedent => Ok(dedent(alloc, node, ids, ONE)?),
+        Shift::Indent => indent(alloc, node, ids, ONE).map_err(Stop::from),
+        Shift::Dedent => dedent(alloc, node, ids, ONE).map_err(Stop::from),
     }
 }

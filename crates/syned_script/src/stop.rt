@@ -33,7 +33,7 @@ impl Stop {
     pub(crate) fn bad(at: usize, reason: Reason) -> Stop
         ensures { result ≡ Bad (record { at = at; reason = reason }) }
     {
-        Stop::Bad(Fault::new(at, reason))
+        Stop::Bad(Fault { at, reason })
     }
 
     pub(crate) fn at(self, line: usize) -> Stopped

@@ -88,9 +88,9 @@ impl Words {
         ensures memory { IfErr result (λ stop. stop ≡ Memory) }
     {
         let annotation = annotation_after(self.in_order.as_slice().len()).ok_or(Stop::Memory)?;
-        let text = String::from_str(alloc, word.as_str())?;
-        let key = String::from_str(alloc, word.as_str())?;
         self.in_order.reserve(1)?;
+        let text = String::from_str(alloc, word.as_str())?;
+        let key = text.clone()?;
         self.annotations.insert(key, annotation)?;
         self.in_order.push(Word { text, annotation }).unwrap();
         Ok(annotation)

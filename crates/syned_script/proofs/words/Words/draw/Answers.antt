@@ -22,7 +22,7 @@ drawn c =
     let w : Word = record { text = c.in_ok-text.text; annotation = a } in
     let number : a ≡ suc (length c.as_slice.result.now) = subst (λ o. IfSome o (λ a. a ≡ suc (length c.as_slice.result.now))) c.in_ok-annotation.ensures.ok_part c.annotation_after.ensures in
     let text : string_bytes c.in_ok-text.text ≡ word = c.in_ok-text.ensures.ok ∙ c.as_str.ensures in
-    let key : string_bytes c.in_ok-key.key ≡ word = c.in_ok-key.ensures.ok ∙ c.as_str-2.ensures in
+    let key : string_bytes c.in_ok-key.key ≡ word = c.in_ok-key.ensures.cases ∙ text in
     let none : number_from 1 (texts_of ws) word ≡ None = subst (λ ts. number_from 1 ts word ≡ None) (sym c.self.view_is) c.requires in
     let put = hash_map_updates_text (string_bytes c.in_ok-key.key) old new (Some a) c.in_ok-insert.ensures.updates in
     let pushed : c.push.new.self.items ≡ ws ++ w ∷ [] = subst (λ r. c.push.new.self.items ≡ (if is_ok r then c.reserve.new.self.items ++ w ∷ [] else c.reserve.new.self.items)) c.unwrap.ensures c.push.ensures.items ∙ ap (λ l. l ++ w ∷ []) c.reserve.ensures.items in
@@ -34,3 +34,6 @@ invariant_of-self-2 c = (drawn c).0
 
 pub returns-clause-annotation : goal.returns-clause-annotation
 returns-clause-annotation c = (drawn c).2
+
+pub returns-clause-words : goal.returns-clause-words
+returns-clause-words c = (drawn c).1 ∙ ap (λ l. l ++ c.args.word.text.now ∷ []) c.self.view_is
