@@ -55,15 +55,21 @@ def code(file):
 
 
 def clauses(file, text):
-    """The contracts, invariants and models of a source that other crates can see, without its bodies."""
+    """The contracts, invariants and models of a source that other crates can see, without its bodies, and where the names in them come from."""
     private = [it for it in functions_of(file, text) if it.is_private]
+    found, uses = [], []
     for clause in CLAUSE.finditer(text):
-        if any(it.start <= clause.start() < it.end for it in private):
-            continue
         end = text.find("\n", clause.start())
         while text.count("{", clause.start(), end) > text.count("}", clause.start(), end):
             end = text.find("\n", end + 1)
-        yield text[clause.start() : end]
+        if not any(it.start <= clause.start() < it.end for it in private):
+            (uses if "ghost use" in clause[0] + text[clause.end() : end][:4] else found).append(text[clause.start() : end])
+    said = "\n".join(found)
+    for use in uses:
+        module, _, names = use.strip().removeprefix("ghost use ").rstrip(";").partition(".{")
+        names = names.rstrip("}").split(", ") if names else [re.split(r"\W", module)[-1]]
+        found += [f"{module}.{name}" for name in names if all(part in said for part in name.split("◌"))]
+    return found
 
 
 def key(crate):
