@@ -92,7 +92,7 @@ quick() {
 }
 
 everything() {
-    quick docs format model rows caller counts
+    quick docs format model caller counts
     end_if_failed
 
     # One proof fewer than processors, with one job each: a proof takes up to a quarter more of their time with several jobs. The planted bugs take the
@@ -102,6 +102,7 @@ everything() {
     finish
     end_if_failed
 
+    start rows python3 tests/rows.py
     start scripts python3 tests/known.py
     start models python3 tests/models.py
     start chains python3 tests/chains.py

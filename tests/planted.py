@@ -37,7 +37,8 @@ RECORD = ROOT / "tests/planted.txt"
 
 
 def bugs_of(crate):
-    return sorted(it for folder in ("planted", "must-fail") for it in (ROOT / "crates" / crate / folder).glob("*.edit"))
+    edits = (it for folder in ("planted", "must-fail") for it in (ROOT / "crates" / crate / folder).glob("*.edit"))
+    return sorted(edits, key=lambda it: it.name)
 
 
 def crates_with_bugs():
