@@ -1,15 +1,16 @@
 -- Whether an order has each undropped change once.
 --     IsMet                         so many numbers of the order are met, or need not be
 --     met-at-first, met-length      before the first
+--     met-more                      a number that was not met before
 --     met-twice, met-past           a number that is met twice, or is no change's
 --     all-met                       all are met exactly if the order has each once
 use Rattle.std.specs.Prelude.{◌≡◌, ◌↔◌, ◌<◌, ◌≤◌, ◌+◌, ℕ, zero, suc, Bool, true, false, not, nat_eq, List, [], ◌∷◌, map, length, take, count_by, slice_get, IsTrue, ◌⊎◌, refl}
 use Rattle.std.specs.List.{list_all}
 use Rattle.std.specs.Option.{option_map_or}
-use Rattle.std.proofs.Common.{ap, sym, ◌∙◌, arith, get_or}
-use Rattle.std.proofs.lemmas.Bool.{cases_lt, cases_Bool, and_parts, and_from, eq-eqb}
+use Rattle.std.proofs.Common.{ap, sym, subst, ◌∙◌, arith, get_or, set, get_or-set_same, get_or-set_other}
+use Rattle.std.proofs.lemmas.Bool.{cases_lt, cases_eq, cases_Bool, and_parts, and_from, eq-eqb, ne_eqb}
 use Rattle.std.proofs.lemmas.List.{take_all, length-map}
-use Rattle.std.proofs.lemmas.List.Sums.{sum_by_more_le}
+use Rattle.std.proofs.lemmas.List.Sums.{sum_by_more_le, count_by_more_yes, count_by_more_no}
 use Rattle.std.proofs.lemmas.Option.{slice_get_past}
 use mathlib.Core.Logic.{inl, inr}
 use Rattle.edit_change.specs.Nesting.{is_dropped, undropped}
@@ -76,6 +77,23 @@ module _ (cs : List Change) (order : List ℕ) (k : ℕ) (met : List Bool) (is_m
 
     pub met-past : length cs ≤ get_or order k 0 → ListsEachOnce cs order → ⊥
     met-past past each = let x = get_or order k 0 in omega (arith, counted, each x, count-past cs x past)
+
+  -- one number more that was not met
+  pub met-more : k < length order → get_or order k 0 < length met → get_or met (get_or order k 0) false ≡ false
+      → IsMet cs order (k + 1) (set met (get_or order k 0) true)
+  met-more l within unseen n =
+      let x = get_or order k 0 in
+      elim (cases_eq n x) [
+        | inl same ↦
+            let here : one_if (get_or (set met x true) x false) ≡ 1 = ap (λ b. one_if b) (get_or-set_same met x true false within) in
+            let none : one_if (get_or met x false) ≡ 0 = ap (λ b. one_if b) unseen in
+            let more = count_by_more_yes (nat_eq x) order k 0 l (eq-eqb x x refl) in
+            subst (λ m. one_if (get_or (set met x true) m false) ≡ count_by (nat_eq m) (take (k + 1) order) + one_if (dropped_at cs m)) (sym same)
+            (omega (arith, here, none, more, is_met x))
+        | inr apart ↦
+            ap (λ b. one_if b) (get_or-set_other met x n true false apart) ∙ is_met n
+            ∙ ap (λ m. m + one_if (dropped_at cs n)) (sym (count_by_more_no (nat_eq n) order k 0 l (ne_eqb n x apart)))
+      ]
 
   -- the whole order
   module _ (l : length order ≤ k) (long : length met ≡ length cs) where

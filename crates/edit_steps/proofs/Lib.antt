@@ -13,10 +13,12 @@ mod TestsOfLinks
 pub mod Deepest
 mod DefaultFirst
 mod EachOnce
+mod Entering
 mod GapTables
 mod Gaps
 mod NextInGroup
 pub mod Groups
+mod Indices
 mod Links
 pub mod LiveAims
 mod NextAims

@@ -1,8 +1,9 @@
 -- The links of the tables that code makes.
 --     token-dropped, token-kept     to what replaces the token that a change stands after
+--     none-alone, no-links          copies of no link are none; a table of none has none
 --     put-before, put-after, passed-before     the table of gaps, from the first change on
-use Rattle.std.specs.Prelude.{◌≡◌, ◌≢◌, ℕ, suc, ◌<◌, ◌≤◌, Bool, true, false, ◌&&◌, ◌||◌, not, cond, List, [], ◌∷◌, length, slice_get, option_and_then, Option, Some, None, refl}
-use Rattle.std.proofs.Common.{ap, ap₂, sym, ◌∙◌, arith, get_or-set_same, get_or-set_other}
+use Rattle.std.specs.Prelude.{◌≡◌, ◌≢◌, ℕ, zero, suc, ◌<◌, ◌≤◌, Bool, true, false, ◌&&◌, ◌||◌, not, cond, List, [], ◌∷◌, length, slice_get, option_and_then, Option, Some, None, refl}
+use Rattle.std.proofs.Common.{ap, ap₂, sym, ◌∙◌, arith, get_or-set_same, get_or-set_other, replicate}
 use Rattle.std.proofs.lemmas.Bool.{cases_eq, or_left, false≢true}
 use Rattle.std.proofs.lemmas.List.{append-nil}
 use Rattle.std.proofs.lemmas.Map.Keys.{any_passes_from_place}
@@ -87,6 +88,16 @@ module _ (cs : List Change) (n : ℕ) (c : Change) (b : Bool) (told : b ≡ is_d
   pub token-kept : (o : Option ℕ) → first_clash cs ≡ None → b ≡ false → StartsAtToken cs (anchor_token c) o → o ≡ token_link cs n c
   token-kept o apart h starts =
       started cs c apart (sym told ∙ h) (anchor_token c) refl o starts ∙ sym (ap (λ a. cond a None (option_and_then (target_at cs) (anchor_token c))) (sym told ∙ h))
+
+-- ---- the table of gaps, before the first change
+pub none-alone : (P : Option ℕ → Type 0) → ((k : ℕ) → P (Some k) → ⊥) → (o : Option ℕ) → P o → o ≡ None
+none-alone P some None h = refl
+none-alone P some (Some k) h = absurd (some k h)
+
+pub no-links : (n k : ℕ) → link (replicate n None) k ≡ None
+no-links zero k = refl
+no-links (suc n) zero = refl
+no-links (suc n) (suc k) = no-links n k
 
 -- ---- the table of gaps, once the change with this number is met
 module _ (cs : List Change) (n m : ℕ) (next : m ≡ suc n) (c : Change) (is : slice_get cs n ≡ Some c) (links : List (Option ℕ)) (before : (k : ℕ) (d : Change) → k < n → slice_get cs k ≡ Some d → link links k ≡ gap_link cs k d) where

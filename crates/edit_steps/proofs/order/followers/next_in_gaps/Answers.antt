@@ -1,15 +1,43 @@
 use Rattle.std.proofs.Common.{◌≡◌, ◌∙◌, ◌<◌, ◌+◌, suc, ap, arith, sym, length}
-use Rattle.std.proofs.lemmas.List.{length-set}
+use Rattle.std.proofs.lemmas.List.{length-map, length-replicate, length-set}
 use Rattle.std.proofs.lemmas.Option.{slice_get_within}
 use Rattle.edit_change.proofs.Clashes.{at-index}
 use Rattle.edit_change.specs.ChangeAim.{aim}
+use Rattle.edit_change.specs.inner.Fate.{fate}
 use Rattle.edit_steps.specs.inner.Followers.{link}
 use Rattle.edit_steps.specs.inner.GapTable.{gap_entry}
 use Rattle.edit_steps.proofs.Gaps.{seen-kept, seen-passed}
-use Rattle.edit_steps.proofs.Links.{put-before, put-after, passed-before}
+use Rattle.edit_steps.proofs.Links.{none-alone, no-links, put-before, put-after, passed-before}
 use Rattle.edit_steps.proofs.Undropped.{fate-at}
 use Rattle.edit_steps.proofs.order.followers.next_in_gaps.Goals as goal
 use Rattle.edit_steps.proofs.order.followers.next_in_gaps.Goals.{then-not-is_dropped+in_ok-links-2, else-not-is_dropped}
+
+pub loop-number-init : goal.loop-number-init
+loop-number-init c =
+    let none = c.in_ok-links.ensures.items_if_clones_equal (none-alone _ (λ k copied. copied)) in
+    record {
+      seen = c.new-seen.ensures;
+      long = ap length none ∙ length-replicate _ _;
+      before = λ n d before is. absurd (omega (arith, before));
+      after = λ n from. ap (λ xs. link xs n) none ∙ no-links (length c.args.changes.now) n;
+    }
+
+pub offset_bounds-changes-number : goal.offset_bounds-changes-number
+offset_bounds-changes-number c = omega (arith, c.loop-number-test.true)
+
+pub bounds-changes-number : goal.bounds-changes-number
+bounds-changes-number c = c.loop-number-test.true
+
+pub offset_bounds-fates-number : goal.offset_bounds-fates-number
+offset_bounds-fates-number c = omega (arith, c.loop-number-test.true)
+
+pub bounds-fates-number : goal.bounds-fates-number
+bounds-fates-number c =
+    let same = ap length c.requires ∙ length-map c.args.changes.now (fate c.args.changes.now) in
+    omega (arith, c.loop-number-test.true, same)
+
+pub index_mut-requires : goal.index_mut-requires
+index_mut-requires c = omega (arith, c.loop-number-test.true, c.loop-number.invariant.long)
 
 pub loop-number-preserved : goal.loop-number-preserved
 loop-number-preserved c =

@@ -1,5 +1,7 @@
-use Rattle.std.proofs.Common.{◌≡◌, ◌∙◌, sym, subst}
+use Rattle.std.proofs.Common.{◌≡◌, ◌∙◌, sym, subst, ap, arith, length}
+use Rattle.std.proofs.lemmas.List.{length-map}
 use Rattle.edit_change.proofs.Clashes.{at-index}
+use Rattle.edit_change.specs.inner.Fate.{fate}
 use Rattle.edit_steps.specs.Schedule.{anchor_token}
 use Rattle.edit_steps.specs.inner.Followers.{token_link, StartsAtToken}
 use Rattle.edit_steps.proofs.Links.{token-dropped, token-kept}
@@ -7,6 +9,20 @@ use Rattle.edit_steps.proofs.Tables.{linked-more, linked-all}
 use Rattle.edit_steps.proofs.Undropped.{fate-at}
 use Rattle.edit_steps.proofs.order.followers.replacements.Goals as goal
 use Rattle.edit_steps.proofs.order.followers.replacements.Goals.{then-is_dropped, else-is_dropped}
+
+pub offset_bounds-changes-number : goal.offset_bounds-changes-number
+offset_bounds-changes-number c = omega (arith, c.loop-number-test.true)
+
+pub bounds-changes-number : goal.bounds-changes-number
+bounds-changes-number c = c.loop-number-test.true
+
+pub offset_bounds-fates-number : goal.offset_bounds-fates-number
+offset_bounds-fates-number c = omega (arith, c.loop-number-test.true)
+
+pub bounds-fates-number : goal.bounds-fates-number
+bounds-fates-number c =
+    let same = ap length c.requires.fates ∙ length-map c.args.changes.now (fate c.args.changes.now) in
+    omega (arith, c.loop-number-test.true, same)
 
 pub loop-number-preserved : goal.loop-number-preserved
 loop-number-preserved c =

@@ -1,9 +1,25 @@
 use Rattle.std.proofs.Common.{◌∙◌, ◌<◌, ◌≤◌, ◌+◌, ap, arith, length, get_or}
+use Rattle.std.specs.Prelude.{count_by, slice_index}
 use Rattle.std.proofs.lemmas.Grind.{get_or_default_zero}
-use Rattle.std.proofs.lemmas.List.{length-set}
+use Rattle.std.proofs.lemmas.List.{get_or-replicate, length-replicate, length-set, take_all}
+use Rattle.edit_steps.specs.inner.Waits.{points_at}
 use Rattle.edit_steps.proofs.WaitCounts.{counted-some, counted-past, counted-none, count-bound}
 use Rattle.edit_steps.proofs.order.waits.counts.Goals as goal
 use Rattle.edit_steps.proofs.order.waits.counts.Goals.{in-Some+then-number-len, in-Some+else-number-len, in_default}
+
+pub loop-link-init : goal.loop-link-init
+loop-link-init c =
+    let all = c.in_ok-counts.ensures.items_if_clones_equal (λ y h. h) in
+    record {
+      long = ap length all ∙ length-replicate _ _;
+      counted = λ n less. ap (λ xs. slice_index xs n) all ∙ get_or-replicate (length c.args.links.now) n 0 0 less;
+    }
+
+pub offset_bounds-links-link-index : goal.offset_bounds-links-link-index
+offset_bounds-links-link-index c = omega (arith, c.loop-link-test.true)
+
+pub bounds-links-link-index : goal.bounds-links-link-index
+bounds-links-link-index c = c.loop-link-test.true
 
 pub overflow_add-index_mut : goal.overflow_add-index_mut
 overflow_add-index_mut c =
@@ -47,3 +63,10 @@ loop-link-preserved c =
             counted = λ n less. ap (λ ns. get_or ns n 0) stays ∙ counted-none links i l counts.items kept.long kept.counted w.in_default.is n less;
           }
     ]
+
+pub returns-clause-long : goal.returns-clause-long
+returns-clause-long c = c.loop-link.invariant.long
+
+pub returns-clause-counted : goal.returns-clause-counted
+returns-clause-counted c = λ n less.
+    c.loop-link.invariant.counted n less ∙ ap (count_by (points_at n)) (take_all c.loop-link.link-index c.args.links.now c.loop-link-test.false)

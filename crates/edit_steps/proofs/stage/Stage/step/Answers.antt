@@ -1,5 +1,6 @@
-use Rattle.std.proofs.Common.{◌≡◌, length, ◌+◌, ap, sym, subst, ◌∙◌, arith, rules, refl}
+use Rattle.std.proofs.Common.{◌≡◌, length, ◌+◌, ap, sym, subst, ◌∙◌, arith, refl}
 use Rattle.std.proofs.lemmas.List.{length-map}
+use Rattle.std.proofs.lemmas.Result.{MatchResult-from_err}
 use Rattle.green_tree.specs.Tree.{trees}
 use Rattle.green_tree.specs.Green.{branch_tree}
 use Rattle.green_tree.specs.GreenElement.{element_tree, element_trees}
@@ -67,16 +68,22 @@ stays_visited s v same visited given cs stage = record {
 pub returns-in_err-place-clause-refused : goal.returns-in_err-place-clause-refused
 returns-in_err-place-clause-refused c =
     let stays = stays_visited c.args.self.now c.place_of.new.visited c.place_of.ensures.same c.place_of.ensures.visited in
-    search (rules, stays)
+    MatchResult-from_err c.from_residual.result _ _ c.from_residual.ensures.0 (λ e. stays)
+
+pub reserve-requires-clause-visited : goal.reserve-requires-clause-visited
+reserve-requires-clause-visited c = c.place_of.ensures.visited
 
 pub reserve-requires-clause-node : goal.reserve-requires-clause-node
 reserve-requires-clause-node c =
     number_within c.place_of.new.visited c.place_of.ensures.visited c.in-Some.target.parent.now c.in_ok-place.place.node c.in_ok-place.ensures.place.node
 
+pub reserve-requires-clause-fits : goal.reserve-requires-clause-fits
+reserve-requires-clause-fits c = c.in-Some.ensures.fits
+
 pub returns-in_err-reserve-clause-refused : goal.returns-in_err-reserve-clause-refused
 returns-in_err-reserve-clause-refused c =
     let stays = stays_visited c.args.self.now c.reserve.new.self (λ p. c.reserve.ensures.same p ∙ c.place_of.ensures.same p) c.reserve.ensures.visited in
-    search (rules, stays)
+    MatchResult-from_err c.from_residual-in_err-reserve.result _ _ c.from_residual-in_err-reserve.ensures.0 (λ e. stays)
 
 pub unreachable-requires : goal.unreachable-requires
 unreachable-requires c =
@@ -114,7 +121,17 @@ returns-in_err-splice_at-clause-refused c =
     let reserved = stays_visited s c.reserve.new.self (λ p. c.reserve.ensures.same p ∙ c.place_of.ensures.same p) c.reserve.ensures.visited in
     let same : s.current ≡ Node c.splice_at.new.top = c.in-Node.is ∙ ap Node (sym c.in_err-splice_at.ensures.err) in
     let stays = subst (λ e. StageStaysAs s (record { original = s.original; current = e; visited = c.reserve.new.self })) same reserved in
-    search (rules, stays)
+    MatchResult-from_err c.from_residual-in_err-splice_at.result _ _ c.from_residual-in_err-splice_at.ensures.0 (λ e. stays)
+
+pub returns-in_err-splice_at-clause-refused_count : goal.returns-in_err-splice_at-clause-refused_count
+returns-in_err-splice_at-clause-refused_count c =
+    MatchResult-from_err c.from_residual-in_err-splice_at.result _ _ c.from_residual-in_err-splice_at.ensures.0 (λ e. c.in_err-splice_at.ensures.no_count)
+
+pub put-requires-clause-visited : goal.put-requires-clause-visited
+put-requires-clause-visited c = c.reserve.ensures.visited
+
+pub put-requires-clause-room : goal.put-requires-clause-room
+put-requires-clause-room c = c.in_ok-reserve.ensures.room
 
 pub put-requires-clause-can : goal.put-requires-clause-can
 put-requires-clause-can c =

@@ -21,12 +21,21 @@ loop-slot-init c =
       node = refl;
     }
 
+pub offset_bounds-slot-items-slot-index : goal.offset_bounds-slot-items-slot-index
+offset_bounds-slot-items-slot-index c = omega (arith, c.loop-slot-test.true)
+
+pub bounds-slot-items-slot-index : goal.bounds-slot-items-slot-index
+bounds-slot-items-slot-index c = c.loop-slot-test.true
+
 pub unreachable-requires : goal.unreachable-requires
 unreachable-requires c =
     let leaf = c.in_default.field-0 in
     let v = c.args.visited.now in
     let t = c.args.target.now in
     no_token (held_at v) t.parent.now t.at c.loop-slot.slot-index c.loop-slot.path.items leaf.kind leaf.text (subst (λ e. IsReached (held_at v) t.parent.now t.at c.loop-slot.slot-index c.loop-slot.path.items (element_tree e)) c.in_default.is c.loop-slot.invariant.way)
+
+pub start-new_slot-requires-clause-visited : goal.start-new_slot-requires-clause-visited
+start-new_slot-requires-clause-visited c = c.loop-slot.invariant.visited
 
 pub start-new_slot-requires-clause-node : goal.start-new_slot-requires-clause-node
 start-new_slot-requires-clause-node c = number_within c.loop-slot.visited c.loop-slot.invariant.visited (take c.loop-slot.slot-index c.args.target.now.parent.now) c.loop-slot.node c.loop-slot.invariant.node
@@ -44,6 +53,9 @@ start-new_slot-requires-clause-fits c =
     let f = on_way (held_at v) path t.at d l.path.items b way (held_in l.visited l.node) this c.loop-slot-test.true (get_or path d 0) refl in
     let many = ap length (sym c.children-children.ensures) ∙ length-map c.children-children.result.now element_tree in
     omega (arith, f.inside, many, c.children-children.type_inv.0)
+
+pub enter-requires-clause-visited : goal.enter-requires-clause-visited
+enter-requires-clause-visited c = c.start-new_slot.ensures.visited
 
 pub enter-requires-clause-node : goal.enter-requires-clause-node
 enter-requires-clause-node c =
@@ -78,6 +90,18 @@ bounds-children-new_slot c =
     let many = ap length (sym c.children-children.ensures) ∙ length-map c.children-children.result.now element_tree in
     omega (arith, f.inside, many, c.start-new_slot.ensures.start)
 
+pub returns-in_err-node-clause-same : goal.returns-in_err-node-clause-same
+returns-in_err-node-clause-same c = λ p. c.enter.ensures.same p ∙ c.start-new_slot.ensures.same p ∙ c.loop-slot.invariant.same p
+
+pub returns-in_err-node-clause-visited : goal.returns-in_err-node-clause-visited
+returns-in_err-node-clause-visited c = c.enter.ensures.visited
+
+pub returns-in_err-push-clause-same : goal.returns-in_err-push-clause-same
+returns-in_err-push-clause-same c = λ p. c.enter.ensures.same p ∙ c.start-new_slot.ensures.same p ∙ c.loop-slot.invariant.same p
+
+pub returns-in_err-push-clause-visited : goal.returns-in_err-push-clause-visited
+returns-in_err-push-clause-visited c = c.enter.ensures.visited
+
 pub loop-slot-preserved : goal.loop-slot-preserved
 loop-slot-preserved c =
     let v = c.args.visited.now in
@@ -107,6 +131,9 @@ unreachable-requires-in_default-current c =
     let v = c.args.visited.now in
     let t = c.args.target.now in
     no_token (held_at v) t.parent.now t.at c.loop-slot.slot-index c.loop-slot.path.items leaf.kind leaf.text (subst (λ e. IsReached (held_at v) t.parent.now t.at c.loop-slot.slot-index c.loop-slot.path.items (element_tree e)) c.in_default-current.is c.loop-slot.invariant.way)
+
+pub start-first-requires-clause-visited : goal.start-first-requires-clause-visited
+start-first-requires-clause-visited c = c.loop-slot.invariant.visited
 
 pub start-first-requires-clause-node : goal.start-first-requires-clause-node
 start-first-requires-clause-node c = number_within c.loop-slot.visited c.loop-slot.invariant.visited (take c.loop-slot.slot-index c.args.target.now.parent.now) c.loop-slot.node c.loop-slot.invariant.node
@@ -143,3 +170,9 @@ returns-clause-place c =
       node = c.start-first.ensures.numbers path ∙ ap (number_at l.visited) (sym f.front_is) ∙ l.invariant.node;
       wide = let same = ap (λ h. h.widths (index_of t.at)) f.held_is in omega (arith, f.wide, many, same, c.children-children-2.type_inv.0);
     }
+
+pub returns-clause-same : goal.returns-clause-same
+returns-clause-same c = λ p. c.start-first.ensures.same p ∙ c.loop-slot.invariant.same p
+
+pub returns-clause-visited : goal.returns-clause-visited
+returns-clause-visited c = c.start-first.ensures.visited

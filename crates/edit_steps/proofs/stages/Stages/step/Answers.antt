@@ -1,5 +1,18 @@
+use Rattle.std.proofs.Common.{arith}
+use Rattle.std.proofs.lemmas.Option.{slice_get_within}
 use Rattle.edit_steps.proofs.StepOfStages.{payload-read, splice-can, splice-counts, splice-takes, splice-rooted, splice-top, splice-kept, waits-there}
 use Rattle.edit_steps.proofs.stages.Stages.step.Goals as goal
+
+pub offset_bounds-changes-number : goal.offset_bounds-changes-number
+offset_bounds-changes-number c = omega (arith, slice_get_within c.args.changes.now c.args.number _ c.requires.can.5.there)
+
+pub bounds-changes-number : goal.bounds-changes-number
+bounds-changes-number c = slice_get_within c.args.changes.now c.args.number _ c.requires.can.5.there
+
+pub index-requires : goal.index-requires
+index-requires c =
+    let way = c.requires.can.5 in
+    omega (arith, way.stages.trees.long, slice_get_within c.args.changes.now c.args.number _ way.there)
 
 pub put-requires-clause-can : goal.put-requires-clause-can
 put-requires-clause-can c =
