@@ -3,3 +3,4 @@ pub mod TakenUp
 pub mod Positions
 mod Indexed
 mod Noted
+pub mod Unchanged
