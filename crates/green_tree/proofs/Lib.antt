@@ -9,10 +9,13 @@ pub mod KindNames
 pub mod TokenPaths
 pub mod Starts
 pub mod Shapes
+pub mod SlotShapes
+pub mod Refused
 pub mod Parts
 pub mod FoundTokens
 pub mod Options
 pub mod Turns
+pub mod OffTurns
 pub mod TextLengths
 pub mod Written
 pub mod OpenNodes

@@ -25,10 +25,10 @@ same_forest k j f g h = cc
 first_shape : (t u : SyntaxTree) (ts us : List SyntaxTree) → SameShapes (t ∷ ts) (u ∷ us) → SameShape t u
 first_shape t u ts us h = same_first (without_texts t) (without_texts u) (forest_without_texts (forest ts)) (forest_without_texts (forest us)) h
 
-rest_shapes : (t u : SyntaxTree) (ts us : List SyntaxTree) → SameShapes (t ∷ ts) (u ∷ us) → SameShapes ts us
+pub rest_shapes : (t u : SyntaxTree) (ts us : List SyntaxTree) → SameShapes (t ∷ ts) (u ∷ us) → SameShapes ts us
 rest_shapes t u ts us h = same_rest (without_texts t) (without_texts u) (forest_without_texts (forest ts)) (forest_without_texts (forest us)) h
 
-both_shapes : (t u : SyntaxTree) (ts us : List SyntaxTree) → SameShape t u → SameShapes ts us → SameShapes (t ∷ ts) (u ∷ us)
+pub both_shapes : (t u : SyntaxTree) (ts us : List SyntaxTree) → SameShape t u → SameShapes ts us → SameShapes (t ∷ ts) (u ∷ us)
 both_shapes t u ts us h k = same_both (without_texts t) (without_texts u) (forest_without_texts (forest ts)) (forest_without_texts (forest us)) h k
 
 pub length-SameShapes : (ts us : List SyntaxTree) → SameShapes ts us → length ts ≡ length us

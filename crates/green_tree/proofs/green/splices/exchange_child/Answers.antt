@@ -1,6 +1,6 @@
-use Rattle.std.proofs.Common.{◌≡◌, ◌+◌, ◌≤◌, ◌++◌, ◌∷◌, [], length, refl, arith, ap, sym, ◌∙◌, List}
+use Rattle.std.proofs.Common.{◌++◌, ◌∷◌, [], length, refl, arith, ap, sym, ◌∙◌, List}
 use Rattle.std.proofs.lemmas.Result.{IfOk-weaker}
-use Rattle.green_tree.specs.Tree.{forest, trees}
+use Rattle.green_tree.specs.Tree.{forest}
 use Rattle.green_tree.specs.Green.{branch_tree}
 use Rattle.green_tree.specs.GreenElement.{element_trees}
 use Rattle.green_tree.specs.declared.green.GreenElement.{GreenElement}

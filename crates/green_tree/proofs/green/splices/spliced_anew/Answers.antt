@@ -1,10 +1,11 @@
-use Rattle.std.proofs.Common.{◌≡◌, ◌+◌, [], length, refl, arith, ap, sym, subst, ◌∙◌}
+use Rattle.std.proofs.Common.{◌≡◌, ◌+◌, length, arith, ap, sym, subst, ◌∙◌}
 use Rattle.std.specs.List.{AllByRecursion}
 use Rattle.std.proofs.lemmas.List.{length-append}
 use Rattle.green_tree.specs.Green.{branch_tree}
 use Rattle.green_tree.specs.GreenElement.{element_trees}
 use Rattle.green_tree.specs.inner.Splices.{spliced}
 use Rattle.green_tree.specs.inner.Ways.{rebuilt, HasSlot}
+use Rattle.green_tree.proofs.Refused.{no-ok, no-value}
 use Rattle.green_tree.proofs.Ways.{rebuilt-push, all_pushed, room_at_end, way_ends}
 use Rattle.green_tree.proofs.green.splices.spliced_anew.Goals as goal
 
@@ -43,3 +44,26 @@ loop-node-preserved c =
       within = omega (arith, more, c.loop-node.invariant.within);
       count = omega (arith, more, c.loop-node.invariant.within, c.loop-node.invariant.count, c.in_ok-made-2.ensures.count);
     }
+
+pub returns-in_err-above-clause-ok : goal.returns-in_err-above-clause-ok
+returns-in_err-above-clause-ok c = no-value _ c.from_residual.result c.from_residual.ensures.0
+
+pub returns-in_err-above-clause-count : goal.returns-in_err-above-clause-count
+returns-in_err-above-clause-count c = no-ok _ c.from_residual.result c.from_residual.ensures.0
+
+pub returns-in_err-made-clause-ok : goal.returns-in_err-made-clause-ok
+returns-in_err-made-clause-ok c = no-value _ c.from_residual-in_err-made.result c.from_residual-in_err-made.ensures.0
+
+pub returns-in_err-made-clause-count : goal.returns-in_err-made-clause-count
+returns-in_err-made-clause-count c = no-ok _ c.from_residual-in_err-made.result c.from_residual-in_err-made.ensures.0
+
+pub returns-in_err-made-2-clause-ok : goal.returns-in_err-made-2-clause-ok
+returns-in_err-made-2-clause-ok c = no-value _ c.from_residual-in_err-made-2.result c.from_residual-in_err-made-2.ensures.0
+
+pub returns-in_err-made-2-clause-count : goal.returns-in_err-made-2-clause-count
+returns-in_err-made-2-clause-count c = no-ok _ c.from_residual-in_err-made-2.result c.from_residual-in_err-made-2.ensures.0
+
+pub loop-node-smaller : goal.loop-node-smaller
+loop-node-smaller c =
+    let more : length c.loop-node.above.items ≡ length c.pop.new.self.items + 1 = ap length c.in-Some.ensures.items ∙ length-append c.pop.new.self.items _ in
+    omega (arith, more)
