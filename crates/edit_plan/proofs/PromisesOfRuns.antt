@@ -4,8 +4,11 @@
 --     too-long                      a tree whose text passes the limit is too long for the plan
 --     refuses                       the refusals of the new root, as those of the plan
 --     of-root, ran-before           none of them says that the text is too long; what a run of an engine came before
-use Rattle.std.specs.Prelude.{◌≡◌, ℕ, ◌<◌, ◌≤◌, nat_eq, cond, Bool, true, false, List, [], ◌∷◌, map, filter, length, Some, IsSome, All, Result, Ok, Err, IfErr, refl}
-use Rattle.std.specs.Result.{IsErrAnd}
+--     engine-refuses                the refusal of an engine, as that of the plan
+--     drawn-next                    a source that is not spent draws the next number
+use Rattle.std.specs.Prelude.{◌≡◌, ℕ, ◌+◌, ◌<◌, ◌≤◌, nat_eq, cond, Bool, true, false, List, [], ◌∷◌, map, filter, length, Option, Some, None, IsSome, All, Result, Ok, Err, IfErr, OnOk, OnErr, refl}
+use Rattle.std.specs.Option.{IsNone, OnSome}
+use Rattle.std.specs.Result.{IsErrAnd, is_ok}
 use Rattle.std.proofs.Common.{ap, sym, subst, ◌∙◌, arith}
 use Rattle.std.proofs.lemmas.Option.{same_Some}
 use Rattle.cst_core.specs.Path.{Path, first_item}
@@ -16,7 +19,7 @@ use Rattle.cst_core.specs.SyntaxElement.{syntax_at}
 use Rattle.cst_core.specs.TreeError.{TreeError}
 use Rattle.cst_core.specs.TreeError.TheVariants as tree
 use Rattle.edit_plan.specs.Plan.{found_for, Plan, Edit, Makes, MakesTooLong, RunRefuses, is_registered}
-use Rattle.edit_plan.specs.Engine.{IsRewritten, HasRewritten, RanBefore, annotated_path}
+use Rattle.edit_plan.specs.Engine.{IsRewritten, HasRewritten, RanBefore, annotated_path, EngineRefuses}
 use Rattle.edit_plan.specs.EditRefusal.{of_tree, of_engine}
 use Rattle.edit_change.specs.Places.{ArePlaces}
 use Rattle.edit_change.specs.Results.{paths_with}
@@ -28,7 +31,7 @@ use Rattle.edit_plan.specs.declared.engine_error.EngineError.{EngineError}
 use Rattle.edit_plan.specs.declared.engine_error.EngineError.TheVariants as engine
 use Rattle.edit_plan.specs.inner.PlanRun.{IsOfRoot}
 use Rattle.std.specs.List.{AllByRecursion}
-use Rattle.std.proofs.lemmas.Bool.{cases_Bool, eqb-true, false≢true}
+use Rattle.std.proofs.lemmas.Bool.{cases_Bool, eqb-true, false≢true, true≢false}
 use mathlib.Core.Logic.{inl, inr}
 use Rattle.edit_plan.proofs.ByAnnotation.{annotated-registered}
 use Rattle.edit_plan.proofs.Filled.{text-relabelled}
@@ -97,10 +100,32 @@ ran-with ran (Err TooLong) of r = absurd of
 ran-with ran (Err NoTreeNumber) of r = r
 ran-with ran (Err Memory) of r = (true, r)
 
+-- what an engine refuses a plan for
+pub engine-refuses : (p : Plan) (next : ℕ) (e : EngineError) → EngineRefuses p e → RunRefuses p next (of_engine e)
+engine-refuses p next engine.TooLong long = long
+engine-refuses p next engine.Memory h = tt
+
 -- a refusal that stands for another one
 pub err-gives : {T E : Type 0} (P : E → Type 0) (r : Result T E) (x : E) → IsErrAnd r (λ e. e ≡ x) → P x → IfErr r P
 err-gives P (Ok t) x is holds = tt
 err-gives P (Err e) x is holds = subst P (sym is) holds
+
+-- what holds whatever the answer is
+pub err-holds : {T E P : Type 0} (r : Result T E) → P → OnErr r P
+err-holds (Ok t) h = tt
+err-holds (Err e) h = h
+
+pub ok-holds : {T E P : Type 0} (r : Result T E) → P → OnOk r P
+ok-holds (Ok t) h = h
+ok-holds (Err e) h = tt
+
+-- ---- the next number, where there is one
+pub ok-no-err : {T E : Type 0} (x : T) (e : E) → Ok x ≡ Err e → ⊥
+ok-no-err x e same = true≢false (ap is_ok same)
+
+pub drawn-next : (o : Option ℕ) (next after : ℕ) → (IsNone o → IsSpent next) → (IsSpent next → ⊥) → OnSome o (after ≡ next + 1) → after ≡ next + 1
+drawn-next None next after none unspent some = absurd (unspent (none refl))
+drawn-next (Some n) next after none unspent some = some
 
 -- ---- a tree that was made otherwise
 pub with-tree : (p : Plan) (old : Rewritten) (green shown : Branch) → HasRewritten p old → green ≡ shown → ((places : ℕ → Path) → ArePlaces p.mapping p.changes places → map plain (new_tree p.changes places p.root) ≡ branch_tree shown ∷ []) → HasRewritten p (record { green = green; changed = old.changed; annotated = old.annotated })

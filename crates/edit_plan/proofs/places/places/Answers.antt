@@ -1,9 +1,10 @@
 use Rattle.std.proofs.Common.{◌≡◌, ◌<◌, ◌+◌, ◌∙◌, ℕ, length, None, Some, IsSomeAnd, refl, sym, ap, subst, arith}
 use Rattle.std.proofs.lemmas.Bool.{false≢true}
+use Rattle.std.proofs.lemmas.List.{length-map}
 use Rattle.edit_map.specs.Mapping.{path_in}
 use Rattle.edit_plan.specs.inner.PlaceTables.{IsPlaceOf, IsPlaced, FoundSoFar}
 use Rattle.edit_change.specs.Places.{HasPlace}
-use Rattle.edit_change.specs.inner.Fate.{owner_in}
+use Rattle.edit_change.specs.inner.Fate.{fate, owner_in}
 use Rattle.edit_change.specs.inner.OwnerPlaces.{owner_at}
 use Rattle.edit_change.specs.declared.fate.Fate.{Fate}
 use Rattle.edit_change.specs.declared.fate.Fate.TheVariants.{Independent, Dropped, Owned}
@@ -104,3 +105,8 @@ loop-number-preserved c =
 
 pub returns-clause-placed : goal.returns-clause-placed
 returns-clause-placed c = all-found c.args.mapping.now c.args.changes.now c.loop-number.places.items c.loop-number.number c.loop-number.invariant.found c.loop-number-test.false
+
+pub bounds-fates-number : goal.bounds-fates-number
+bounds-fates-number c =
+    let cs = c.args.changes.now in
+    subst (λ k. c.loop-number.number < k) (sym (ap length c.requires ∙ length-map cs (fate cs))) c.loop-number-test.true

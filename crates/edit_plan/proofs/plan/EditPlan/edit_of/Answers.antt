@@ -1,12 +1,14 @@
 use Rattle.std.proofs.Common.{◌≡◌, ◌<◌, [], map, Err, sym, ◌∙◌, ap, subst}
 use Rattle.cst_core.specs.Green.{branch_tree, length_limit}
 use Rattle.cst_core.specs.Tree.{text_length}
+use Rattle.cst_core.specs.TreeIds.{IsSpent}
 use Rattle.edit_change.specs.Topmost.{paths_of}
 use Rattle.edit_plan.specs.Plan.{RunRefuses}
 use Rattle.edit_plan.specs.inner.PlanRun.{IsOfRoot}
+use Rattle.edit_plan.specs.declared.edit_error.EditError.TheVariants.{Memory}
 use Rattle.edit_plan.specs.Engine.{annotated_path}
 use Rattle.edit_plan.specs.EditRefusal.{of_tree}
-use Rattle.edit_plan.proofs.PromisesOfRuns.{makes, refuses, of-root, err-gives}
+use Rattle.edit_plan.proofs.PromisesOfRuns.{makes, refuses, of-root, err-gives, ok-no-err, drawn-next}
 use Rattle.edit_plan.proofs.PathsOfResults.{changed-there, annotated-there}
 use Rattle.edit_plan.proofs.plan.EditPlan.edit_of.Goals as goal
 
@@ -37,3 +39,39 @@ returns-clause-ok c =
 
 pub returns-clause-short : goal.returns-clause-short
 returns-clause-short c = subst (λ t. text_length t < length_limit) (sym (ap (λ x. x.root) c.in_ok-new_root.ensures.ok)) c.requires.short
+
+pub returns-in_err-changed-clause-refused : goal.returns-in_err-changed-clause-refused
+returns-in_err-changed-clause-refused c =
+    err-gives (RunRefuses c.args.self.now c.args.ids.now) c.from_residual-in_err-changed.result Memory c.from_residual-in_err-changed.ensures.1 tt
+
+pub returns-in_err-changed-clause-fits : goal.returns-in_err-changed-clause-fits
+returns-in_err-changed-clause-fits c =
+    err-gives IsOfRoot c.from_residual-in_err-changed.result Memory c.from_residual-in_err-changed.ensures.1 tt
+
+pub returns-in_err-annotated-clause-refused : goal.returns-in_err-annotated-clause-refused
+returns-in_err-annotated-clause-refused c =
+    err-gives (RunRefuses c.args.self.now c.args.ids.now) c.from_residual-in_err-annotated.result Memory c.from_residual-in_err-annotated.ensures.1 tt
+
+pub returns-in_err-annotated-clause-fits : goal.returns-in_err-annotated-clause-fits
+returns-in_err-annotated-clause-fits c =
+    err-gives IsOfRoot c.from_residual-in_err-annotated.result Memory c.from_residual-in_err-annotated.ensures.1 tt
+
+pub returns-in_err-old_root-clause-refused : goal.returns-in_err-old_root-clause-refused
+returns-in_err-old_root-clause-refused c =
+    err-gives (RunRefuses c.args.self.now c.args.ids.now) c.from_residual-in_err-old_root.result Memory c.from_residual-in_err-old_root.ensures.1 tt
+
+pub returns-in_err-old_root-clause-fits : goal.returns-in_err-old_root-clause-fits
+returns-in_err-old_root-clause-fits c =
+    err-gives IsOfRoot c.from_residual-in_err-old_root.result Memory c.from_residual-in_err-old_root.ensures.1 tt
+
+pub invariant_of-result : goal.invariant_of-result
+invariant_of-result c =
+    let ok = c.in_ok-new_root.ensures.ok in
+    record {
+      is_root = ap (λ x. x.path) ok;
+      fits = subst (λ t. text_length t < length_limit) (sym (ap (λ x. x.root) ok)) c.requires.short;
+    }
+
+pub returns-clause-drawn : goal.returns-clause-drawn
+returns-clause-drawn c =
+    drawn-next c.next.result c.args.ids.now c.next.new.self c.next.ensures.spent.0 (λ (s : IsSpent c.args.ids.now). ok-no-err _ _ (c.in_ok-new_root.ensures.no_number.1 (c.trial_source-drawn.ensures ∙ s, c.requires.short))) c.next.ensures.given
