@@ -1,6 +1,7 @@
 -- The order in which changes stand in a text, and what they take away.
 --     syntax-there                  an element that a path leads to
 --     offset-start                  where a change starts that is no insert after an element
+--     offset-end                    where an insert after an element is
 --     native-there, fits-there      what a change aims at is there
 --     range-next, range-none        a sibling more of a range; none is left
 --     pushed-each, both-there       a fact of each item of a list; items of two lists of one length
@@ -19,6 +20,7 @@ use Rattle.std.proofs.lemmas.Grind.{flat_map-append}
 use Rattle.cst_core.specs.Path.{Path, same_path, counted_from}
 use Rattle.cst_core.specs.Tree.{Tree, Forest, Token, Node, end, more, SyntaxTree, trees, forest, at, text, forest_text, forest_relabelled, tokens, forest_tokens}
 use Rattle.cst_core.specs.Order.{start}
+use Rattle.cst_core.specs.AtOffset.{end_of}
 use Rattle.cst_core.specs.Element.{Element, element_at}
 use Rattle.cst_core.specs.SyntaxElement.{element_of, syntax_at, syntax_as}
 use Rattle.cst_core.specs.declared.element.SyntaxElement.{SyntaxElement}
@@ -62,6 +64,15 @@ offset-start root (InsertAll (FirstChild n) x) h = refl
 offset-start root (Replace t e) h = refl
 offset-start root (ReplaceWithMany t es) h = refl
 offset-start root (ReplaceAll first last es) h = refl
+
+pub offset-end : (root : Element) (c : Change) → aim c ≡ AfterElement (aim_path c) → offset root c ≡ end_of (element_at root (aim_path c))
+offset-end root (Insert (After e) x) h = refl
+offset-end root (InsertAll (After e) x) h = refl
+offset-end root (Insert (FirstChild n) x) h = absurd (cc)
+offset-end root (InsertAll (FirstChild n) x) h = absurd (cc)
+offset-end root (Replace t e) h = absurd (cc)
+offset-end root (ReplaceWithMany t es) h = absurd (cc)
+offset-end root (ReplaceAll first last es) h = absurd (cc)
 
 -- ---- ranges
 pub range-next : {Y : Type 0} (g : ℕ → List Y) (i n : ℕ) → i < n → flat_map g (counted_from i (n - i)) ≡ g i ++ flat_map g (counted_from (i + 1) (n - (i + 1)))

@@ -7,9 +7,9 @@ use Rattle.edit_change.specs.Nesting.{owner}
 use Rattle.edit_change.specs.StagedChange.{staged_aim}
 use Rattle.edit_change.specs.declared.change.Change.{Change}
 use Rattle.one_pass.specs.declared.dependent.Dependent.{Dependent}
-use Rattle.std.proofs.lemmas.List.{map-append}
+use Rattle.std.proofs.lemmas.List.{length-map, map-append}
 use Rattle.edit_change.specs.inner.Aimed.{aims_of, numbered}
-use Rattle.edit_change.specs.inner.Fate.{owner_in}
+use Rattle.edit_change.specs.inner.Fate.{fate, owner_in}
 use Rattle.edit_change.specs.inner.OwnerPlaces.{places_in, owner_at}
 use Rattle.edit_change.proofs.Independents.{is_independent_in, one-more, passed-at, independents-whole, independent-at}
 use Rattle.edit_change.proofs.MovedAims.{change-at, owner-is, owner-at-number, any-owner-there}
@@ -87,3 +87,8 @@ returns-clause-free c = c.loop-number.invariant.free ∙ independents-whole c.ar
 
 pub returns-clause-owned : goal.returns-clause-owned
 returns-clause-owned c = λ k. c.loop-number.invariant.entered k ∙ dependents-whole c.args.changes.now (places_in c.args.places.now) c.loop-number.number k c.loop-number-test.false
+
+pub bounds-fates-number : goal.bounds-fates-number
+bounds-fates-number c =
+    let cs = c.args.changes.now in
+    subst (λ k. c.loop-number.number < k) (sym (ap length c.requires.fates ∙ length-map cs (fate cs))) c.loop-number-test.true

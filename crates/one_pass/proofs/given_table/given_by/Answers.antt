@@ -1,15 +1,17 @@
 use Rattle.std.proofs.Common.{◌≡◌, ◌+◌, ℕ, List, ◌∷◌, [], ◌++◌, map, take, None, ap, ap₂, arith, sym, subst, ◌∙◌}
-use Rattle.std.proofs.lemmas.List.{map-append, map-id}
+use Rattle.std.proofs.lemmas.List.{map-append, map-id, map_more}
 use Rattle.std.specs.Prelude.{All}
 use Rattle.std.proofs.lemmas.List.Sums.{sum_by_push}
 use Rattle.cst_core.specs.Element.{subtree}
+use Rattle.cst_core.specs.Path.{Path}
 use Rattle.cst_core.specs.GreenElement.{element_tree}
 use Rattle.cst_core.specs.SyntaxElement.{element_of}
 use Rattle.edit_change.specs.Rewriting.{rewritten, NumberedAim}
 use Rattle.edit_change.specs.Change.{payload}
 use Rattle.edit_change.specs.Effort.{touched, parents_of}
 use Rattle.edit_change.specs.TouchedNodes.{touched_each, Raises}
-use Rattle.edit_change.specs.inner.Aimed.{aims_of}
+use Rattle.edit_change.specs.inner.AimFrom.{aim_from}
+use Rattle.edit_change.specs.inner.Aimed.{aims_of, numbered}
 use Rattle.edit_change.specs.inner.KindOnly.{kind_only}
 use Rattle.edit_change.proofs.Positions.{push-of-take}
 use Rattle.edit_change.proofs.Independents.{take-whole}
@@ -77,3 +79,20 @@ returns-clause-marks c =
     let es = c.payload-elements.result.now in
     let whole = ap (map element_of) (take-whole c.loop-element.element-index es c.loop-element-test.false) ∙ c.payload-elements.ensures in
     subst (λ xs. AreMarkedEach c.args.given.now c.args.registered.now (map moved_dependent c.args.dependents.now) xs c.loop-element.entry.items) whole c.loop-element.invariant.marks
+
+pub rewritten_element-requires : goal.rewritten_element-requires
+rewritten_element-requires c = c.requires
+
+pub loop-it-init : goal.loop-it-init
+loop-it-init c = ap aims_of c.in_ok-aims.ensures.items
+
+pub loop-it-preserved : goal.loop-it-preserved
+loop-it-preserved c =
+    let xs = c.args.dependents.now in
+    let x = c.it-item.result in
+    let from : Path → NumberedAim = λ p. (x.number, aim_from p x.change.now) in
+    let own = c.numbered_aim_from.ensures ∙ ap from c.deref.ensures.value ∙ ap moved_dependent c.it-item.is in
+    ap aims_of c.in_ok-push.ensures.items
+    ∙ map-append numbered c.loop-it.aims.items (c.numbered_aim_from.result ∷ [])
+    ∙ ap₂ (λ ns m. ns ++ m ∷ []) c.loop-it.invariant own
+    ∙ sym (map_more moved_dependent xs c.loop-it.it-index x c.loop-it-test.true)

@@ -1,6 +1,6 @@
 use Rattle.std.specs.Prelude.{false, nat_eq, cond, ℕ, zero, suc, ◌<◌, List, [], ◌∷◌, ◌++◌, map, filter, length, Vec}
 use Rattle.std.specs.Global.{Global}
-use Rattle.std.proofs.Common.{◌≡◌, get_or, refl, arith, ap, ap₂, sym, ◌∙◌}
+use Rattle.std.proofs.Common.{◌≡◌, get_or, refl, arith, ap, ap₂, sym, subst, ◌∙◌}
 use Rattle.std.proofs.Math.ListN.{set, length-set}
 use Rattle.std.proofs.lemmas.Bool.{cases_eq, eq-eqb, ne_eqb}
 use Rattle.std.proofs.lemmas.List.{append_assoc, map-append, get_or-set_same, get_or-set_other}
@@ -53,3 +53,15 @@ loop-mark-preserved-in-Continue-branch-2 c =
       size = length-set lists m.number c.push.new.self ∙ c.loop-mark.invariant.size;
       lists = λ k d l. one-path lists m.number c.index_mut.result.now c.push.new.self m.path (marks_of c.next.new.self.rest.items) k d there c.index_mut.ensures.value c.in_ok-push.ensures.items ∙ ap (λ ns. paths_of (get_or lists k d).items ++ paths_of_mark k ns) (sym (ap marks_of c.in-Some.ensures.steps.0)) ∙ c.loop-mark.invariant.lists k d l;
     }
+
+pub loop-mark-init : goal.loop-mark-init
+loop-mark-init c =
+    let size = c.in_ok-lists.ensures.size in
+    let first = c.into_iter-mark-iterator.ensures.into_iter_gives.0 in
+    record {
+      size = size;
+      lists = λ k d l. ap₂ (λ ps ms. paths_of ps ++ paths_of_mark k (marks_of ms)) (c.in_ok-lists.ensures.empty k d (subst (λ n. k < n) (sym size) l)) first;
+    }
+
+pub returns-clause-size : goal.returns-clause-size
+returns-clause-size c = c.loop-mark.invariant.size

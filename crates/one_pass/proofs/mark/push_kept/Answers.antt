@@ -2,7 +2,7 @@ use Rattle.std.specs.Prelude.{Option, Some, None, option_map, cond, Bool, true, 
 use Rattle.std.specs.Option.{is_some}
 use Rattle.std.proofs.Common.{◌≡◌, ◌<◌, ◌+◌, ◌==◌, ℕ, suc, List, [], ◌∷◌, ◌++◌, map, drop, length, get_or, arith, ap, sym, refl, ◌∙◌}
 use Rattle.std.proofs.lemmas.Bool.{ne_eqb}
-use Rattle.std.proofs.lemmas.List.{append-nil, append_assoc, at_drop_more}
+use Rattle.std.proofs.lemmas.List.{append-nil, append_assoc, at_drop_all, at_drop_more}
 use Rattle.green_tree.specs.Path.{Path}
 use Rattle.green_tree.specs.Tree.{SyntaxTree}
 use Rattle.green_tree.specs.Green.{Leaf}
@@ -57,3 +57,14 @@ loop-mark-preserved c =
       | then-leads+in_ok-push_mark w ↦ kept true before _ _ c.loop-mark-test.true (sym w.if-leads.true ∙ seen) (ap (λ v. marks_of v.items) w.found-is ∙ w.in_ok-push_mark.ensures ∙ ap (λ q. before ++ ((get_or c.args.sought.now k no_mark).number, c.args.path.now ++ q) ∷ []) c.path_from-below.ensures) c.loop-mark.invariant
       | else-leads w ↦ kept false before _ _ c.loop-mark-test.true (sym w.if-leads.false ∙ seen) (ap (λ v. marks_of v.items) w.found-is ∙ sym (append-nil before)) c.loop-mark.invariant
     ]
+
+pub loop-mark-init : goal.loop-mark-init
+loop-mark-init c = refl
+
+pub returns : goal.returns
+returns c =
+    let found = marks_of c.loop-mark.found.items in
+    let t = element_tree c.args.element.now in
+    sym (append-nil found)
+    ∙ sym (at_drop_all (λ xs. found ++ map (mark_below c.args.path.now) (kept_in t (marks_seen c.args.depth xs))) c.args.sought.now c.loop-mark.mark-index c.loop-mark-test.false)
+    ∙ c.loop-mark.invariant

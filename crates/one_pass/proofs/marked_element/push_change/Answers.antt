@@ -1,4 +1,4 @@
-use Rattle.std.proofs.Common.{◌≡◌, ◌≤◌, ◌<◌, ◌+◌, ℕ, List, [], ◌∷◌, ◌++◌, map, length, drop, slice_get, None, refl, arith, rules, ap, ap₂, sym, subst, ◌∙◌}
+use Rattle.std.proofs.Common.{◌≡◌, ◌≤◌, ◌<◌, ◌+◌, ℕ, List, [], ◌∷◌, ◌++◌, map, length, drop, slice_get, None, refl, arith, ap, ap₂, sym, subst, ◌∙◌}
 use Rattle.std.specs.Option.{option_map_or}
 use Rattle.std.proofs.lemmas.Grind.{common_steps}
 use Rattle.std.proofs.lemmas.List.{append-nil, map-append, length-append, at_drop_more, at_drop_all}
@@ -38,7 +38,7 @@ loop-one-preserved c =
     let before = marks_of c.loop-one.walk.found.items in
     let d : MarkTree = Token [] [] in
     let within : i < length es = c.loop-one-test.true in
-    let next : c.len.result ≡ length out = search rules in
+    let next : c.len.result ≡ length out = c.len.ensures ∙ c.loop-one.out.ok.0 in
     record {
       path = grind (arith, common_steps, c.in_ok-push.ensures.items, c.pop.ensures.rest, c.loop-one.invariant.path);
       count = c.loop-one.invariant.count;
@@ -69,3 +69,12 @@ returns-clause-marks c = λ trees are.
     let after = marks_of c.loop-one.walk.found.items in
     let path = c.args.walk.now.path.items in
     sym (append-nil after) ∙ sym (at_drop_all (λ us. after ++ shown path (length c.loop-one.out.items) us) ts c.loop-one.one-index past_all) ∙ c.loop-one.invariant.marks ts marked_are
+
+pub loop-one-init : goal.loop-one-init
+loop-one-init c = record { path = refl; count = refl; trees = refl; marks = λ ts are. refl }
+
+pub returns-clause-path : goal.returns-clause-path
+returns-clause-path c = c.loop-one.invariant.path
+
+pub returns-clause-count : goal.returns-clause-count
+returns-clause-count c = c.loop-one.invariant.count

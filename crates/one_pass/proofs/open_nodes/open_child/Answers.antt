@@ -1,4 +1,5 @@
-use Rattle.std.proofs.Common.{◌≡◌, ◌+◌, ℕ, ◌++◌, [], map, take, drop, suc, refl, ap, ap₂, sym, subst, ◌∙◌, arith, rules}
+use Rattle.std.specs.Prelude.{OnOk}
+use Rattle.std.proofs.Common.{◌≡◌, ◌+◌, ℕ, ◌++◌, [], ◌∷◌, map, take, drop, suc, refl, ap, ap₂, sym, subst, ◌∙◌, arith}
 use Rattle.std.specs.List.{AllByRecursion}
 use Rattle.std.proofs.lemmas.List.{take-append-drop}
 use Rattle.edit_change.proofs.AlteredNodes.{if_ok-map}
@@ -71,4 +72,16 @@ returns-clause-entered c =
     }) c.open_node.ensures.opened
 
 pub returns-clause-path : goal.returns-clause-path
-returns-clause-path c = search rules
+returns-clause-path c =
+    let path = c.args.walk.now.path.items in
+    let next = c.len.ensures ∙ c.args.above.now.out.ok.0 in
+    subst (λ p. OnOk c.open_node.result (c.open_node.new.walk.path.items ≡ p)) (c.in_ok-push.ensures.items ∙ ap (λ n. path ++ n ∷ []) next) c.open_node.ensures.path
+
+pub run_inside-end-requires : goal.run_inside-end-requires
+run_inside-end-requires c = c.requires.within
+
+pub marks_before-last-requires : goal.marks_before-last-requires
+marks_before-last-requires c = c.requires.order.ascending
+
+pub returns-clause-count : goal.returns-clause-count
+returns-clause-count c = c.open_node.ensures.count

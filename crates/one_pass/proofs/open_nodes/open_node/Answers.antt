@@ -1,4 +1,4 @@
-use Rattle.std.proofs.Common.{◌++◌, [], ◌∷◌, ℕ, map, flat_map, take, rules, refl, ap, sym, subst, ◌∙◌}
+use Rattle.std.proofs.Common.{◌++◌, [], ◌∷◌, ℕ, map, flat_map, take, refl, ap, sym, subst, ◌∙◌}
 use Rattle.std.proofs.lemmas.List.{append-nil, at_drop_all}
 use Rattle.one_pass.specs.declared.mark.Sought.{Sought}
 use Rattle.one_pass.specs.inner.Marked.{mark_below, marks_of, marks_seen, marks_at, sought_below, InPathOrder, FromChild}
@@ -27,15 +27,21 @@ returns-clause-opened c =
     let found = marks_of c.loop-mark.walk.found.items in
     let all = sym (append-nil found) ∙ sym (at_drop_all (λ ys. found ++ map (mark_below path) (flat_map (λ (s : Sought). (s.number, []) ∷ []) ys)) (take n xs) c.loop-mark.mark-index c.loop-mark-test.false) ∙ c.loop-mark.invariant.marks in
     record {
-      kind = search rules;
-      elements = search rules;
+      kind = c.kind.ensures;
+      elements = c.children-elements.ensures;
       depth = refl;
       aims = refl;
       ascending = subst (λ ys. InPathOrder (marks_seen d ys)) (sym rest) (opened-order d n xs c.requires said.before said.behind);
       from = subst (λ ys. FromChild 0 (marks_seen d ys)) (sym rest) said.behind;
       sought_are = λ i. ap (λ ys. sought_below i (marks_seen d ys)) rest ∙ opened-below d n xs c.requires said.before said.behind i;
-      out = search rules;
+      out = c.in_ok-out.ensures.items;
       slot = refl;
       passed = refl;
       found = all ∙ ap (λ ms. marks_of c.args.walk.now.found.items ++ ms) (tops-found d n xs c.requires said.before said.behind path) ∙ ap (λ p. marks_of c.args.walk.now.found.items ++ map (λ n. (n, p)) (marks_at (marks_seen d xs) [])) (sym c.loop-mark.invariant.path);
     }
+
+pub returns-clause-path : goal.returns-clause-path
+returns-clause-path c = c.loop-mark.invariant.path
+
+pub returns-clause-count : goal.returns-clause-count
+returns-clause-count c = c.loop-mark.invariant.count

@@ -1,4 +1,4 @@
-use Rattle.std.proofs.Common.{◌≡◌, ◌+◌, ◌-◌, ◌<◌, ◌≤◌, ℕ, Bool, List, [], ◌∷◌, ◌++◌, false, true, cond, map, drop, length, get_or, slice_get, None, Some, refl, arith, rules, ap, ap₂, sym, ◌∙◌}
+use Rattle.std.proofs.Common.{◌≡◌, ◌+◌, ◌-◌, ◌<◌, ◌≤◌, ℕ, Bool, List, [], ◌∷◌, ◌++◌, false, true, cond, map, drop, length, get_or, slice_get, None, Some, refl, arith, ap, ap₂, sym, ◌∙◌}
 use Rattle.std.specs.Option.{option_map_or}
 use Rattle.std.proofs.lemmas.Bool.{lt-ltb, le-ltb}
 use Rattle.std.proofs.lemmas.List.{append-nil, append_assoc, drop-drop}
@@ -69,7 +69,7 @@ returns-clause-marks c =
     let child = c.in-Some.child.now in
     let tree = element_tree child in
     let there = slice_get_read top.elements.now (length top.elements.now) _ child refl found.3.0 found.1 in
-    let place : c.len.result ≡ length top.out.items = search rules in
+    let place : c.len.result ≡ length top.out.items = c.len.ensures ∙ top.out.ok.0 in
     let to : ℕ = length top.out.items + (get_or q 0 0 - c.args.first) in
     let carried = λ (r : Path). carried_to (length top.out.items) c.args.first top.elements.now n r in
     let is = ap carried (sym c.path_from.ensures) ∙ in-child (length top.out.items) c.args.first top.elements.now n q child c.in-len1-up.len_at_least c.if-slot-first.false there in

@@ -1,4 +1,5 @@
-use Rattle.std.proofs.Common.{◌≡◌, ℕ, suc, ◌+◌, List, [], ◌∷◌, ◌++◌, length, arith, rules, ap, ap₂, sym, subst, ◌∙◌}
+use Rattle.std.specs.Prelude.{MatchOption}
+use Rattle.std.proofs.Common.{◌≡◌, ℕ, suc, ◌+◌, List, [], ◌∷◌, ◌++◌, length, arith, ap, ap₂, sym, subst, ◌∙◌}
 use Rattle.std.proofs.lemmas.List.{append-nil, append_assoc, map-append, length-append}
 use Rattle.green_tree.specs.Path.{Path}
 use Rattle.green_tree.specs.Tree.{SyntaxTree, node}
@@ -22,7 +23,7 @@ nodes-smaller-in-Some c =
     let f = c.push_on.new.top in
     let g = c.open_child.new.above in
     let b : Branch = c.in-Some.node.now in
-    let next : IsNext f b = search rules in
+    let next : IsNext f b = subst (λ r. MatchOption r (IsEnded f) (λ n. IsNext f n.now)) c.in-Some.is c.in_ok-node.ensures.next in
     let inner = c.in_ok-inner.inner in
     let enters = c.in_ok-inner.ensures.entered in
     let before = c.push_on.new.walk in
@@ -36,7 +37,7 @@ nodes-preserved-in-Some c =
     let f = c.push_on.new.top in
     let g = c.open_child.new.above in
     let b : Branch = c.in-Some.node.now in
-    let next : IsNext f b = search rules in
+    let next : IsNext f b = subst (λ r. MatchOption r (IsEnded f) (λ n. IsNext f n.now)) c.in-Some.is c.in_ok-node.ensures.next in
     let inner = c.in_ok-inner.inner in
     let said = c.in_ok-node.ensures.further in
     let enters = c.in_ok-inner.ensures.entered in
@@ -79,9 +80,9 @@ pub returns-in_default-pop-clause-count : goal.returns-in_default-pop-clause-cou
 returns-in_default-pop-clause-count c =
     let f = c.push_on.new.top in
     let said = c.in_ok-node.ensures.further in
-    let ended : IsEnded f = search rules in
+    let ended : IsEnded f = subst (λ r. MatchOption r (IsEnded f) (λ n. IsNext f n.now)) c.in_default.is c.in_ok-node.ensures.next in
     let above = c.nodes.above.items in
-    let empty : length above ≡ 0 = search (arith, rules) in
+    let empty : length above ≡ 0 = sym c.nodes.above.ok.0 ∙ c.in_default-pop.ensures.cases.0 in
     count-done c.args.walk.now.builds c.push_on.new.walk.builds c.build_node.new.builds (to_build f) (built_above above) (suc (to_build c.args.first)) c.in_ok-made.ensures.count (ended-built f said.order ended) (ap built_above (none-left above empty)) (λ further. ap₂ (λ n k. counted n (k + (1 + built_above above) + further)) said.count said.built ∙ c.nodes.invariant.count further)
 
 pub returns-in_default-pop-clause-tree : goal.returns-in_default-pop-clause-tree
@@ -89,10 +90,10 @@ returns-in_default-pop-clause-tree c =
     let table = c.args.given.now in
     let f = c.push_on.new.top in
     let said = c.in_ok-node.ensures.further in
-    let ended : IsEnded f = search rules in
+    let ended : IsEnded f = subst (λ r. MatchOption r (IsEnded f) (λ n. IsNext f n.now)) c.in_default.is c.in_ok-node.ensures.next in
     let full : List SyntaxTree = element_trees f.out.items in
     let above = c.nodes.above.items in
-    let empty : length above ≡ 0 = search (arith, rules) in
+    let empty : length above ≡ 0 = sym c.nodes.above.ok.0 ∙ c.in_default-pop.ensures.cases.0 in
     let is : element_tree c.in_ok-made.made ≡ whole table c.nodes.top = c.in_ok-made.ensures.tree ∙ ap₂ (λ l us. node l.0 us) said.same.kind (sym (append-nil full) ∙ ap (λ us. full ++ us) (sym (ended-come f said.order ended (λ ms. kind_only) (given_in table))) ∙ said.trees) in
     is ∙ ap (λ fs. wholes table fs (whole table c.nodes.top)) (sym (none-left above empty)) ∙ c.nodes.invariant.trees
 
@@ -100,12 +101,12 @@ pub returns-in_default-pop-clause-marks : goal.returns-in_default-pop-clause-mar
 returns-in_default-pop-clause-marks c = λ trees are.
     let f = c.push_on.new.top in
     let said = c.in_ok-node.ensures.further in
-    let ended : IsEnded f = search rules in
+    let ended : IsEnded f = subst (λ r. MatchOption r (IsEnded f) (λ n. IsNext f n.now)) c.in_default.is c.in_ok-node.ensures.next in
     let path : Path = c.nodes.walk.path.items in
     let found : List Marking = marks_of c.push_on.new.walk.found.items in
     let due : List Marking = found_with trees c.nodes.walk path c.nodes.top in
     let above = c.nodes.above.items in
-    let empty : length above ≡ 0 = search (arith, rules) in
+    let empty : length above ≡ 0 = sym c.nodes.above.ok.0 ∙ c.in_default-pop.ensures.cases.0 in
     let last : found ≡ due = sym (append-nil found) ∙ ap (λ us. found ++ shown path (length f.out.items) us) (sym (ended-come f said.order ended wanted trees)) ∙ said.marks trees are in
     last ∙ sym (append-nil due) ∙ ap (λ fs. due ++ found_above trees c.args.walk.now.path.items fs) (sym (none-left above empty)) ∙ c.nodes.invariant.marks trees are
 
@@ -126,7 +127,7 @@ nodes-preserved c =
     let start : Path = c.args.walk.now.path.items in
     let f = c.push_on.new.top in
     let said = c.in_ok-node.ensures.further in
-    let ended : IsEnded f = search rules in
+    let ended : IsEnded f = subst (λ r. MatchOption r (IsEnded f) (λ n. IsNext f n.now)) c.in_default.is c.in_ok-node.ensures.next in
     let next = c.in-Some-pop.next in
     let rest = c.pop.new.self.items in
     let less : c.nodes.above.items ≡ rest ++ next ∷ [] = c.in-Some-pop.ensures.items in
@@ -163,3 +164,27 @@ nodes-preserved c =
           let long : length k.out.items ≡ suc n = omega (arith, ap length puts.out, length-append next.out.items (made ∷ [])) in
           ap₂ (λ p m. marks_of after.found.items ++ shown p m (to_come wanted trees k) ++ higher) path long ∙ ap₂ (λ ms us. marks_of ms ++ shown back (suc n) us ++ higher) puts.found (made-come table made _ after next k waiting.1 puts wanted trees) ∙ append_assoc found later higher ∙ all;
     }
+
+pub nodes-init : goal.nodes-init
+nodes-init c =
+    let start : Path = c.args.walk.now.path.items in
+    let table = c.args.given.now in
+    let none = c.new-above.ensures.items in
+    record {
+      path = sym (ap (path_to start) none);
+      order = c.requires;
+      waiting = subst AreWaiting (sym none) tt;
+      count = λ further. ap (counted c.args.walk.now.builds) (omega (arith, ap built_above none));
+      trees = ap (λ fs. wholes table fs (whole table c.args.first)) none;
+      marks = λ trees are.
+          let due = found_with trees c.args.walk.now start c.args.first in
+          ap (λ fs. due ++ found_above trees start fs) none ∙ append-nil due;
+    }
+
+pub push_on-requires : goal.push_on-requires
+push_on-requires c = c.nodes.invariant.order
+
+pub open_child-requires : goal.open_child-requires
+open_child-requires c =
+    let f = c.push_on.new.top in
+    subst (λ r. MatchOption r (IsEnded f) (λ n. IsNext f n.now)) c.in-Some.is c.in_ok-node.ensures.next

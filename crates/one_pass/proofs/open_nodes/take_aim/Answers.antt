@@ -190,3 +190,19 @@ returns-clause-further c =
     let p = c.in_ok-push_change.ensures in
     let put = put-next c.args.given.now c.args.walk.now _ _ top _ c.requires.order c.requires.some x.0 within least s _ _ (part-rest top.aims.now 1) p.path p.count p.trees p.marks in
     put-there c.args.given.now c.args.walk.now _ _ top _ _ x c.in-Some.passed c.requires.order c.requires.some (omega arith) s put at c.in-Some.is
+
+pub share_until-requires-clause-order : goal.share_until-requires-clause-order
+share_until-requires-clause-order c = c.requires.order
+
+pub share_until-requires-clause-within : goal.share_until-requires-clause-within
+share_until-requires-clause-within c =
+    let top = c.args.top.now in
+    let a = seen_first top in
+    let n : ℕ = length top.elements.now in
+    let x = c.match-site_of.slot in
+    let at : Placed n a top.passed x = elim c.match-site_of.branch [
+      | in-Gap w ↦ placed-gap n a top.passed x w.in-Gap.gap w.slot-is w.in-Gap.ensures.0 w.in-Gap.ensures.1
+      | in-Slots w ↦ placed-run n a top.passed x w.in-Slots.first w.in-Slots.count w.saturating_add.result w.max.result w.slot-is w.saturating_add.ensures w.max.ensures w.in-Slots.ensures.0 w.in-Slots.ensures.1
+      | in-Below w ↦ placed-below n a top.passed x w.in-Below.slot w.slot-is w.in-Below.ensures.0 w.in-Below.ensures.1
+    ] in
+    placed-within n a top.passed x at

@@ -19,8 +19,8 @@ use Rattle.one_pass.specs.inner.Built.{AreBuilt}
 use Rattle.one_pass.specs.inner.Marked.{marked, marked_from, mark_below, marks_of}
 use Rattle.one_pass.specs.inner.OwnerTables.{AreDependents}
 use Rattle.one_pass.specs.inner.Pass.{given_in}
-use Rattle.one_pass.specs.inner.Root.{FindsInRoot}
-use Rattle.one_pass.specs.inner.Sought.{addresses, IsTableOf}
+use Rattle.one_pass.specs.inner.Root.{FindsInRoot, IsAlone}
+use Rattle.one_pass.specs.inner.Sought.{addresses, AreInOrder, IsTableOf}
 use Rattle.one_pass.proofs.AllCounted.{all-counted}
 use Rattle.one_pass.proofs.CopiesFound.{under}
 use Rattle.one_pass.proofs.MadeOf.{is_made}
@@ -111,3 +111,29 @@ returns-clause-count c =
     let aims = ap aims_of c.deref-4.ensures.value ∙ c.in_ok-free.ensures.free in
     let tree = subst (λ n. Raises (AreBuilt (aims_of c.deref-4.result.now) (subtree root)) (touched (subtree root) (parents_of (aims_of c.deref-4.result.now))) n after) c.begin-walk.ensures.builds c.in_ok-made.ensures.count in
     all-counted root changes places c.args.builds.now middle after (c.in_ok-given.ensures.count places are) (subst (λ ds. Raises (AreBuilt ds (subtree root)) (touched (subtree root) (parents_of ds)) middle after) aims tree)
+
+pub by_owner-requires-clause-fit : goal.by_owner-requires-clause-fit
+by_owner-requires-clause-fit c = (c.args.planned.root.now, c.requires.fit)
+
+pub given_table-requires-clause-fit : goal.given_table-requires-clause-fit
+given_table-requires-clause-fit c = (c.args.planned.root.now, c.requires.fit)
+
+pub given_table-requires-clause-order : goal.given_table-requires-clause-order
+given_table-requires-clause-order c = c.requires.order
+
+pub given_table-requires-clause-sought : goal.given_table-requires-clause-sought
+given_table-requires-clause-sought c = subst AreInOrder (sym c.deref-2.ensures.value) c.in_ok-sought.ensures.order
+
+pub given_table-requires-clause-long : goal.given_table-requires-clause-long
+given_table-requires-clause-long c = ap length c.deref.ensures.value ∙ c.in_ok-free.ensures.long
+
+pub root_replacement-replacement-requires-clause-fit : goal.root_replacement-replacement-requires-clause-fit
+root_replacement-replacement-requires-clause-fit c = c.requires.fit
+
+pub rewritten_root-requires-clause-sought : goal.rewritten_root-requires-clause-sought
+rewritten_root-requires-clause-sought c = subst AreInOrder (sym c.deref-5.ensures.value) c.in_ok-sought.ensures.order
+
+pub rewritten_root-requires-clause-alone : goal.rewritten_root-requires-clause-alone
+rewritten_root-requires-clause-alone c =
+    let aims = ap aims_of c.deref-4.ensures.value ∙ c.in_ok-free.ensures.free in
+    subst (λ ds. IsAlone ds c.root_replacement-replacement.result) (sym aims) c.root_replacement-replacement.ensures.alone
