@@ -1,6 +1,7 @@
-use Rattle.std.proofs.Common.{◌≡◌, ◌≢◌, ◌∙◌, ◌+◌, ◌-◌, ◌∷◌, ◌++◌, ℕ, List, [], length, ap, sym, refl, subst, true, rules, slice_range, string_bytes}
+use Rattle.std.proofs.Common.{◌≡◌, ◌≢◌, ◌∙◌, ◌+◌, ◌-◌, ◌∷◌, ◌++◌, ℕ, List, [], length, ap, sym, refl, subst, true, slice_range, string_bytes}
 use Rattle.std.specs.Str.{IsUtf8}
 use Rattle.std.specs.Prelude.{◌==◌}
+use Rattle.std.proofs.lemmas.Bool.{eqb-true}
 use Rattle.std.proofs.lemmas.List.{append-nil, map_push}
 use Rattle.text_edit.specs.TextPiece.{TextPiece, as_piece, pieces}
 use Rattle.text_edit.specs.Trimmed.{BeginApart}
@@ -14,8 +15,8 @@ returns-then-is_empty-2 c =
     let e = as_piece c.args.edit.now in
     let start = c.without_common_start.ensures.cut in
     let end = c.without_common_end.ensures.cut in
-    let none : length c.without_common_end.result.0.now ≡ 0 = search rules in
-    let none' : length c.without_common_end.result.1.now ≡ 0 = search rules in
+    let none : length c.without_common_end.result.0.now ≡ 0 = eqb-true (length c.without_common_end.result.0.now) 0 (sym c.if-is_empty.ensures) in
+    let none' : length c.without_common_end.result.1.now ≡ 0 = eqb-true (length c.without_common_end.result.1.now) 0 (sym c.if-is_empty-2.ensures) in
     let same = nothing-left c.range-replaced.result.now c.deref.result.now start.0 c.without_common_start.result.0.now c.without_common_start.result.1.now end.0 c.without_common_end.result.0.now c.without_common_end.result.1.now start.1 start.2 end.1 end.2 none none' in
     ([], Narrows-nothing s e c.requires.fit (sym c.range-replaced.ensures.value ∙ same ∙ c.deref.ensures), sym (append-nil (pieces c.args.out.now.items)))
 
