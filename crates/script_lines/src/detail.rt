@@ -5,7 +5,7 @@ ghost use Rattle.script_lines.specs.Line.{detail_name};
 ghost use Rattle.script_lines.specs.declared.detail.Detail.{Detail};
 
 /// What an answer shows besides.
-#[derive(Clone, Copy, Debug, PartialEq, Eq)]
+#[derive(Clone, Copy)]
 pub enum Detail {
     /// The edits of the old text.
     Edits,

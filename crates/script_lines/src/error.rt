@@ -7,7 +7,7 @@ use std::alloc::{AllocError, AllocFailed};
 use tree_text::ExpressionError;
 
 /// Why a line was not read.
-#[derive(Debug, Drop)]
+#[derive(Drop)]
 pub enum LineError {
     /// It is not well formed.
     Bad(Fault),

@@ -4,7 +4,7 @@ use std::fmt;
 use tree_text::{DEPTH_LIMIT, Expected};
 
 /// What should stand in a field of a line.
-#[derive(Clone, Copy, Debug, PartialEq, Eq)]
+#[derive(Clone, Copy, Debug)]
 pub enum Wanted {
     /// The word that a line begins with.
     Word,
@@ -50,7 +50,7 @@ impl Wanted {
 }
 
 /// Why a line is not well formed.
-#[derive(Clone, Copy, Debug, PartialEq, Eq)]
+#[derive(Clone, Copy, Debug)]
 pub enum Flaw {
     /// Something else is wanted there.
     Wanted(Wanted),
@@ -62,16 +62,19 @@ pub enum Flaw {
 
 impl fmt::Display for Flaw {
     fn fmt<W: fmt::Write>(&self, f: &mut fmt::Formatter<W>) -> fmt::Result {
-        match self {
-            Flaw::Wanted(wanted) => f.write_str(wanted.as_str()),
-            Flaw::Expected(expected) => f.write_str(expected.help()),
-            Flaw::TooDeep => write!(f, "more than {DEPTH_LIMIT} parentheses are open at once"),
-        }
+        let text = match self {
+            Flaw::Wanted(wanted) => wanted.as_str(),
+            Flaw::Expected(expected) => expected.help(),
+            Flaw::TooDeep => {
+                return write!(f, "more than {DEPTH_LIMIT} parentheses are open at once");
+            }
+        };
+        f.write_str(text)
     }
 }
 
 /// What is wrong with a line that is not well formed, and where.
-#[derive(Clone, Copy, Debug, PartialEq, Eq)]
+#[derive(Clone, Copy, Debug)]
 pub struct Fault {
     /// Where it is in the line, in bytes from 0.
     pub at: usize,

@@ -104,7 +104,7 @@ pub enum Line<'a> {
 }
 
 /// Whether a node is put a level further in or out.
-#[derive(Clone, Copy, Debug, PartialEq, Eq)]
+#[derive(Clone, Copy)]
 pub enum Shift {
     Indent,
     Dedent,

@@ -14,7 +14,7 @@ use syned_script::Dialect;
 const BLOCK: usize = 4096;
 
 /// Why a script was not read, or an answer not written.
-#[derive(Debug, Drop)]
+#[derive(Drop)]
 pub(crate) enum EndFailed {
     /// A read or a write failed.
     End,

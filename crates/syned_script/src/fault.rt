@@ -4,7 +4,7 @@ use script_lines::Flaw;
 use std::fmt;
 
 /// Why a line is bad.
-#[derive(Clone, Copy, Debug, PartialEq, Eq)]
+#[derive(Clone, Copy, Debug)]
 pub enum Reason {
     /// The line is not well formed.
     Flaw(Flaw),
@@ -38,27 +38,28 @@ pub enum Reason {
 
 impl fmt::Display for Reason {
     fn fmt<W: fmt::Write>(&self, f: &mut fmt::Formatter<W>) -> fmt::Result {
-        match self {
-            Reason::Flaw(flaw) => write!(f, "{flaw}"),
-            Reason::KindsTooLate => f.write_str("kinds are named before the first tree"),
-            Reason::KindTaken => f.write_str("a kind has this name"),
-            Reason::NoKindLeft => f.write_str("there are no more kinds"),
-            Reason::NameTaken => f.write_str("another tree has this name"),
-            Reason::NoTree => f.write_str("no tree before this line has this name"),
-            Reason::NoElement => f.write_str("the tree has no element there"),
-            Reason::NotANode => f.write_str("a node is expected, and this is a token"),
-            Reason::BesideRoot => f.write_str("nothing can stand beside a root"),
-            Reason::NoEdit => f.write_str("no edit line comes before this line"),
-            Reason::SecondEdit => f.write_str("a script has one edit line"),
-            Reason::SecondOrder => f.write_str("a script has one order line at most"),
-            Reason::AfterFinish => f.write_str("nothing may follow the finish line"),
-            Reason::NoFinish => f.write_str("no finish line"),
-        }
+        let text = match self {
+            Reason::Flaw(flaw) => return write!(f, "{flaw}"),
+            Reason::KindsTooLate => "kinds are named before the first tree",
+            Reason::KindTaken => "a kind has this name",
+            Reason::NoKindLeft => "there are no more kinds",
+            Reason::NameTaken => "another tree has this name",
+            Reason::NoTree => "no tree before this line has this name",
+            Reason::NoElement => "the tree has no element there",
+            Reason::NotANode => "a node is expected, and this is a token",
+            Reason::BesideRoot => "nothing can stand beside a root",
+            Reason::NoEdit => "no edit line comes before this line",
+            Reason::SecondEdit => "a script has one edit line",
+            Reason::SecondOrder => "a script has one order line at most",
+            Reason::AfterFinish => "nothing may follow the finish line",
+            Reason::NoFinish => "no finish line",
+        };
+        f.write_str(text)
     }
 }
 
 /// What is wrong with a line, and where.
-#[derive(Clone, Copy, Debug, PartialEq, Eq)]
+#[derive(Clone, Copy, Debug)]
 pub struct Fault {
     /// Where it is in the line, in bytes from 0.
     pub at: usize,

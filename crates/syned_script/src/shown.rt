@@ -8,7 +8,7 @@ use syntax_editor::TextEdits;
 use tree_text::KindNames;
 
 /// What lines asked an answer to show.
-#[derive(Clone, Copy, Debug, PartialEq, Eq)]
+#[derive(Clone, Copy, Debug)]
 pub struct Details {
     /// The edits of the old text.
     pub edits: bool,
