@@ -481,13 +481,20 @@ def runs(words=(), share=1):
     """One in so many of the scripts whose names contain one of the words, each asked, in groups for one run of the program."""
     group, size = [], 0
     chosen = (case for case in cases() if not words or any(word in case[0] for word in words))
+    is_over = False
     with multiprocessing.get_context("fork").Pool() as pool:
-        for batch, wanted in pool.imap(asked, itertools.islice(chosen, 0, None, share), chunksize=16):
-            if group and size + len(wanted.encode()) > MOST_PRINTED:
-                yield group
-                group, size = [], 0
-            group.append((batch, wanted))
-            size += len(wanted.encode())
+        # Where no more are asked for, the workers end what they have: a pool that is ended at once may wait for ever for a worker's lock.
+        try:
+            for batch, wanted in pool.imap(asked, itertools.takewhile(lambda _: not is_over, itertools.islice(chosen, 0, None, share)), chunksize=16):
+                if group and size + len(wanted.encode()) > MOST_PRINTED:
+                    yield group
+                    group, size = [], 0
+                group.append((batch, wanted))
+                size += len(wanted.encode())
+        finally:
+            is_over = True
+            pool.close()
+            pool.join()
     if group:
         yield group
 
