@@ -25,6 +25,7 @@ import re
 import subprocess
 import sys
 import tempfile
+from concurrent.futures import ProcessPoolExecutor
 
 import known
 import model
@@ -501,7 +502,7 @@ def needed_stack():
 def rows(pool):
     every = line_rows() + tree_rows() + wide_rows() + length_rows() + BYTE_ROWS + end_rows() + many_rows() + beginning_rows()
     wrong = []
-    for said in pool.imap(try_row, every, chunksize=16):
+    for said in pool.map(try_row, every, chunksize=16):
         wrong += [said] if said else []
         if len(wrong) == MOST_WRONG:
             print(*wrong, "hostile: the other rows were not run", sep="\n")
@@ -513,7 +514,7 @@ def rows(pool):
 def damage(pool, count):
     statuses, wrong = [0, 0, 0], []
     groups = [range(at, min(at + GROUP, count)) for at in range(0, count, GROUP)]
-    for status, said in itertools.chain.from_iterable(pool.imap(try_damaged, groups)):
+    for status, said in itertools.chain.from_iterable(pool.map(try_damaged, groups)):
         if said:
             wrong.append(said)
         else:
@@ -711,8 +712,8 @@ def deep_wrong(deep, square=()):
     path = programs.program("test_rows")
     runs = [(path, f"{nesting}, {depth} deep", deep_rows(nesting, depth), stack) for depth, stack in deep for nesting in NESTINGS]
     runs += [(path, f"{nesting}, {depth} levels", square_rows(nesting, depth), stack) for depth, stack in square for nesting in NESTINGS]
-    with multiprocessing.get_context("fork").Pool(RUNS) as pool:
-        wrong = [said for said in pool.imap(try_rows, runs, chunksize=1) if said]
+    with ProcessPoolExecutor(RUNS, multiprocessing.get_context("fork")) as pool:
+        wrong = [said for said in pool.map(try_rows, runs, chunksize=1) if said]
     asked = sum(len(lines) for _, _, lines, _ in runs)
     print(*wrong, f"hostile: {len(runs) - len(wrong)} of {len(runs)} runs of deep rows answer as expected, {asked} rows", sep="\n")
     return wrong
@@ -725,7 +726,7 @@ def scripts_wrong(damaged_alone):
     needed = needed_stack()
     Task.stack = needed + SPARE_STACK
     print(f"hostile: an edit below 200 levels needs {needed} KiB of stack; each run has {Task.stack}")
-    with multiprocessing.get_context("fork").Pool(os.cpu_count()) as pool:
+    with ProcessPoolExecutor(None, multiprocessing.get_context("fork")) as pool:
         if damaged_alone is not None:
             return damage(pool, damaged_alone)
         return rows(pool) or deep_wrong(DEEP, [SQUARE]) or damage(pool, DAMAGED)

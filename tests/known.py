@@ -22,7 +22,7 @@ import os
 import re
 import subprocess
 import sys
-from concurrent.futures import ThreadPoolExecutor
+from concurrent.futures import ProcessPoolExecutor, ThreadPoolExecutor
 from pathlib import Path
 from typing import NamedTuple, Optional, Tuple
 
@@ -259,8 +259,8 @@ def all_right(parts):
     cases = list(known(*(part for part in parts if part != "ends")))
     wrong = list(wrong_ends()) if "ends" in parts or not parts else []
     ran = len(cases) + 3 * ("ends" in parts or not parts)
-    with multiprocessing.get_context("fork").Pool(os.cpu_count()) as pool:
-        for case, found in zip(cases, pool.imap(difference, cases, chunksize=16)):
+    with ProcessPoolExecutor(None, multiprocessing.get_context("fork")) as pool:
+        for case, found in zip(cases, pool.map(difference, cases, chunksize=16)):
             wrong += ["%s: %s" % (case.name, found)] if found else []
             if len(wrong) >= MOST_WRONG:
                 sys.exit("\n".join(["wrong: " + it for it in wrong] + ["scripts: twenty wrong answers, so the others were not run"]))
